@@ -1,3 +1,4 @@
 pub mod Congruence
 pub mod Conversions
 pub mod Machine
+pub mod Blocks
