@@ -1,11 +1,15 @@
 -- What the code computes in 128 bits, as whole numbers.
-use Rattle.std.proofs.Common.{◌≡◌, ℕ, zero, suc, ◌+◌, ◌-◌, ◌*◌, ◌/◌, ◌%◌, ◌^◌, ◌<◌, ◌≤◌, Bool, true, false, refl, sym, ap, subst, ◌∙◌, arith, bit_and, to_z, of_z, mod-lt, lit<, FitsSigned}
+use Rattle.std.proofs.Common.{◌≡◌, ℕ, zero, suc, ◌+◌, ◌-◌, ◌*◌, ◌/◌, ◌%◌, ◌^◌, ◌<◌, ◌≤◌, Bool, true, false, refl, sym, ap, subst, ◌∙◌, arith, bit_and, to_z, of_z, mod-lt, lit<, lit≤, FitsSigned}
 use Rattle.std.specs.Prelude.{ℤ, pos, negsuc, ◌+ℤ◌, ◌-ℤ◌, ◌*ℤ◌, unsigned_abs, nat_lt, if◌then◌else◌}
 use Rattle.std.specs.Int.{w128}
 use Rattle.std.proofs.lemmas.Int.{ints, to_z_pos, to_z-of_z}
 use lib.Signed.{lt_z}
 use Rattle.std.proofs.lemmas.Nat.{pow_pos, pow-add, and_mask, and_le_r, div-add-mod', one_shl, pow_below}
 use borrow.Author.Differences.{up, down, same_in, same_out, sum_is_lem, neg_is, product_is}
+use Rattle.ob_words.specs.declared.types.IntType.{IntType}
+use Rattle.ob_words.specs.declared.types.IntType.TheVariants.{Char, SChar, UChar, Short, UShort, Int, UInt, Long, ULong, LLong, ULLong}
+use Rattle.ob_words.specs.Types.{width}
+use Rattle.ob_words.specs.Operators.{places}
 use Rattle.ob_words.specs.Conversion.{IsCongruent, residue, convert, twos_complement}
 use Rattle.ob_words.proofs.Congruence.{congruent, residue_is}
 
@@ -33,14 +37,30 @@ mask_is k h =
     let less : pos (2 ^ k) -ℤ pos 1 ≡ pos (2 ^ k - 1) = omega (arith, ints, pow_pos k) in
     ap (λ z. of_z w128 (z -ℤ pos 1)) (power_is k h) ∙ ap (of_z w128) less
 
--- the low k bits of a number, as the code masks them
-pub low_bits_is : (k : ℕ) (n : ℤ) → k ≤ 64 → FitsSigned w128 n → unsigned_abs (to_z w128 (bit_and (of_z w128 n) (of_z w128 (to_z w128 (1 * 2 ^ k % 2 ^ 128) -ℤ pos 1)))) ≡ residue (2 ^ k) n
-low_bits_is k n h f =
+-- the low k bits of a number, by a mask
+masked_number : (k : ℕ) (n : ℤ) → k ≤ 64 → FitsSigned w128 n → unsigned_abs (to_z w128 (bit_and (of_z w128 n) (2 ^ k - 1))) ≡ residue (2 ^ k) n
+masked_number k n h f =
     let x = of_z w128 n in
     let small : bit_and x (2 ^ k - 1) < 2 ^ 127 = omega (arith, and_le_r x (2 ^ k - 1), pow_below k 127 (omega arith), pow_pos k) in
-    ap (λ y. unsigned_abs (to_z w128 (bit_and x y))) (mask_is k h)
-    ∙ ap unsigned_abs (to_z_pos w128 (bit_and x (2 ^ k - 1)) small)
-    ∙ masked k (128 - k) n (omega arith) f
+    ap unsigned_abs (to_z_pos w128 (bit_and x (2 ^ k - 1)) small) ∙ masked k (128 - k) n (omega arith) f
+
+-- the low k bits of a number, as the code masks them
+pub low_bits_is : (k : ℕ) (n : ℤ) → k ≤ 64 → FitsSigned w128 n → unsigned_abs (to_z w128 (bit_and (of_z w128 n) (of_z w128 (to_z w128 (1 * 2 ^ k % 2 ^ 128) -ℤ pos 1)))) ≡ residue (2 ^ k) n
+low_bits_is k n h f = ap (λ y. unsigned_abs (to_z w128 (bit_and (of_z w128 n) y))) (mask_is k h) ∙ masked_number k n h f
+
+-- the places of a shift, as the code masks them
+pub places_is : (t : IntType) (n : ℤ) → FitsSigned w128 n → unsigned_abs (to_z w128 (bit_and (of_z w128 n) (of_z w128 (to_z w128 (width t) -ℤ pos 1)))) ≡ places t n
+places_is Char n f = masked_number 3 n (lit≤ tt) f
+places_is SChar n f = masked_number 3 n (lit≤ tt) f
+places_is UChar n f = masked_number 3 n (lit≤ tt) f
+places_is Short n f = masked_number 4 n (lit≤ tt) f
+places_is UShort n f = masked_number 4 n (lit≤ tt) f
+places_is Int n f = masked_number 5 n (lit≤ tt) f
+places_is UInt n f = masked_number 5 n (lit≤ tt) f
+places_is Long n f = masked_number 6 n (lit≤ tt) f
+places_is ULong n f = masked_number 6 n (lit≤ tt) f
+places_is LLong n f = masked_number 6 n (lit≤ tt) f
+places_is ULLong n f = masked_number 6 n (lit≤ tt) f
 
 -- the number of bits whose highest is set, as the code computes it
 pub high_number : (k low : ℕ) → k ≤ 64 → low < 2 ^ 64 → lt_z (to_z w128 low) (to_z w128 (1 * 2 ^ (k - 1) % 2 ^ 128)) ≡ false → to_z w128 (of_z w128 (to_z w128 low -ℤ to_z w128 (1 * 2 ^ k % 2 ^ 128))) ≡ twos_complement k low
