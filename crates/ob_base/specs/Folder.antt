@@ -25,15 +25,15 @@ GivesFile bytes limit (Err Failed) = ⊤
 GivesFile bytes limit (Err NoMemory) = ⊤
 
 -- the answer where the folder has no such file
-abbrev pub GivesNone : Result (Vec ℕ) FileAnswer → Type 0
-GivesNone (Ok given) = ⊥
-GivesNone (Err Long) = ⊥
-GivesNone (Err Failed) = ⊤
-GivesNone (Err NoMemory) = ⊤
+abbrev pub GivesNoFile : Result (Vec ℕ) FileAnswer → Type 0
+GivesNoFile (Ok given) = ⊥
+GivesNoFile (Err Long) = ⊥
+GivesNoFile (Err Failed) = ⊤
+GivesNoFile (Err NoMemory) = ⊤
 
 -- the answer by what the folder has under a name
 abbrev pub GivesEntry : Option (List ℕ) → ℕ → Result (Vec ℕ) FileAnswer → Type 0
-GivesEntry None limit r = GivesNone r
+GivesEntry None limit r = GivesNoFile r
 GivesEntry (Some bytes) limit r = GivesFile bytes limit r
 
 -- the answer by what the folder tells

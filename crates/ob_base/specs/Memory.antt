@@ -1,11 +1,11 @@
 -- The devices in memory, as tests use them: what each holds, and which of its calls fail.
-use Rattle.std.specs.Prelude.{◌≡◌, ℕ, ◌+◌, ◌-◌, ◌^◌, ◌≤◌, ◌<◌, ◌⊎◌, min, Bool, if◌then◌else◌, List, ◌++◌, length, take, drop, Contains, None, Some, Option, refl}
+use Rattle.std.specs.Prelude.{◌≡◌, ℕ, ◌+◌, ◌-◌, ◌^◌, ◌≤◌, ◌<◌, ◌⊎◌, min, List, ◌++◌, length, take, drop, Contains, None, refl}
 use Rattle.std.specs.Coded.{Coded, code_by, coded×, coded_ℕ, coded_list}
 use Rattle.std.specs.FinMap.{code, get}
 use Rattle.ob_base.specs.Faults.{raised}
 use Rattle.ob_base.specs.Folder.{Files}
 
--- the calls of a device: the numbers of those that fail, counted from 0; how many were made, up to 2^64, past each number that the list can have; and how many of them failed
+-- the calls of a device: the numbers of those that fail, counted from 0; how many were made, up to 2^64, past each number that the list can have; and the count of faults
 pub record Calls : Type 0 where
   pub fail : List ℕ
   pub made : ℕ
@@ -15,14 +15,9 @@ pub record Calls : Type 0 where
 abbrev pub no_calls : List ℕ → Calls
 no_calls fail = record { fail = fail; made = 0; faults = 0 }
 
--- how many calls were made before the one with this number, which is none past the last number of 64 bits
-abbrev pub calls_before : Option ℕ → ℕ
-calls_before (Some next) = next
-calls_before None = 2 ^ 64
-
--- the next call is one of those that fail
-abbrev pub IsDue : Calls → Type 0
-IsDue c = Contains c.fail c.made
+-- the number of the next call is one of those that fail
+abbrev pub NextFails : Calls → Type 0
+NextFails c = Contains c.fail c.made
 
 -- after one more call
 abbrev pub after_call : Calls → Calls
@@ -63,7 +58,7 @@ after_write s piece n = record s { taken = s.taken ++ take n piece; calls = afte
 
 -- the next write of a piece fails: its number is one of those that fail, or there is a byte to take and no room
 abbrev pub WriteFails : SinkState → List ℕ → Type 0
-WriteFails s piece = IsDue s.calls ⊎ ((s.room ≤ length s.taken) × (0 < length piece))
+WriteFails s piece = NextFails s.calls ⊎ ((s.room ≤ length s.taken) × (0 < length piece))
 
 -- a folder: its files, and its calls
 pub record FolderState : Type 0 where
@@ -77,6 +72,6 @@ calls_code = code_by (List ℕ × (ℕ × ℕ)) (coded× (coded_list coded_ℕ) 
 abbrev pub folder_code : Coded FolderState
 folder_code = code_by (Files × Calls) (coded× (code (coded_list coded_ℕ) (coded_list coded_ℕ)) calls_code) (λ s. (s.files, s.calls)) (λ p. record { files = p.0; calls = p.1 }) (λ _. refl)
 
--- whether a load comes to nothing: its number is one of those that fail, or no file has the name
+-- the next load of a name fails: its number is one of those that fail, or no file has the name
 abbrev pub LoadFails : FolderState → List ℕ → Type 0
-LoadFails s name = IsDue s.calls ⊎ (get s.files name ≡ None)
+LoadFails s name = NextFails s.calls ⊎ (get s.files name ≡ None)

@@ -9,7 +9,7 @@ pub struct Failed;
 
 /// A device's count of faults: 0 to 2^64 - 1, where it stays.
 #[derive(Debug, Drop)]
-pub struct FaultCount {
+pub(crate) struct FaultCount {
     count: u64,
 }
 
@@ -23,14 +23,14 @@ impl Model for FaultCount {
 
 impl FaultCount {
     /// No fault yet.
-    pub fn new() -> FaultCount
+    pub(crate) fn new() -> FaultCount
         ensures { result ≡ 0 }
     {
         FaultCount { count: 0 }
     }
 
     /// Counts one more fault, unless the count stands at its last value.
-    pub fn raise(&mut self)
+    pub(crate) fn raise(&mut self)
         ensures value { self.new ≡ raised self.old }
         ensures rose { Rose self.old self.new }
     {

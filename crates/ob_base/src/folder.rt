@@ -20,7 +20,7 @@ pub trait Folder {
     /// The files by their names, where the folder tells them. No load changes them.
     ghost files: { Self → Option Files };
 
-    /// How many calls failed so far, up to 2^64 - 1. It never falls.
+    /// The count of faults. It never falls.
     ghost faults: { Self → ℕ };
 
     /// The bytes of the file called `name`, which are at most `limit`.
@@ -30,7 +30,7 @@ pub trait Folder {
     ///   them, and the count stays.
     /// - `NoMemory`: too little memory for the bytes.
     ///
-    /// Any answer but `Failed` leaves the count.
+    /// Any answer but `Failed` leaves the count, and every answer leaves the files.
     fn load(&mut self, alloc: Global, name: &str, limit: usize) -> Result<Vec<u8>, FileAnswer>
         ensures within { IfOk result (λ bytes. vec_len bytes ≤ limit) }
         ensures bytes { Loads (files self.old) name.now limit result }

@@ -1,12 +1,12 @@
-ghost use Rattle.std.specs.Prelude.{◌≡◌, ◌≤◌, ◌↔◌, Some, None, IfOk, IfSome, IsNone, OnOk, OnErr, IsErrOf, vec_len};
+ghost use Rattle.std.specs.Prelude.{◌≡◌, ◌≤◌, ◌↔◌, length, Some, None, IfOk, IfSome, OnOk, OnErr, IsErrOf, vec_len};
 ghost use Rattle.std.specs.FinMap as map;
 ghost use Rattle.std.specs.Option.{option_copied};
 ghost use Rattle.ob_base.specs.Folder.{GivesFile, Loads, CountsLoad};
-ghost use Rattle.ob_base.specs.Memory.{IsDue, LoadFails, no_calls, after_call, after_fault};
+ghost use Rattle.ob_base.specs.Memory.{NextFails, LoadFails, no_calls, after_call, after_fault};
 
 use crate::schedule::Schedule;
 use crate::{FileAnswer, Folder, NoMemory, Text};
-use std::alloc::{AllocError, Global};
+use std::alloc::Global;
 use std::collections::VecDeque;
 use std::marker::Model;
 
@@ -71,14 +71,17 @@ impl Folder for MemFolder {
 
     ghost faults = { λ f. f.calls.faults };
 
+    /// Every load counts as a call, also where the answer is `NoMemory`, which comes only for a
+    /// file within the limit.
     fn load(&mut self, alloc: Global, name: &str, limit: usize) -> Result<Vec<u8>, FileAnswer>
         ensures within { IfOk result (λ bytes. vec_len bytes ≤ limit) }
         ensures bytes { Loads (Some self.old.files) name.now limit result }
         ensures kept { Some self.new.files ≡ Some self.old.files }
         ensures cause { CountsLoad (Some self.old.files) name.now result self.old.calls.faults self.new.calls.faults }
         ensures fails { IsErrOf result FileAnswer.Failed ↔ LoadFails self.old name.now }
-        ensures due { IsDue self.old.calls → self.new ≡ record self.old { calls = after_fault self.old.calls } }
-        ensures passed { (IsDue self.old.calls → ⊥) → self.new ≡ record self.old { calls = after_call self.old.calls } }
+        ensures memory { IsErrOf result FileAnswer.NoMemory → IfSome (map.get self.old.files name.now) (λ bytes. length bytes ≤ limit) }
+        ensures failed { NextFails self.old.calls → self.new ≡ record self.old { calls = after_fault self.old.calls } }
+        ensures passed { ¬ NextFails self.old.calls → self.new ≡ record self.old { calls = after_call self.old.calls } }
     {
         if self.schedule.begin() {
             self.schedule.raise();
@@ -94,7 +97,8 @@ impl Folder for MemFolder {
 fn copy_within(alloc: Global, bytes: &[u8], limit: usize) -> Result<Vec<u8>, FileAnswer>
     ensures within { IfOk result (λ copy. vec_len copy ≤ limit) }
     ensures given { GivesFile bytes.now limit result }
-    ensures found { IsErrOf result FileAnswer.Failed → ⊥ }
+    ensures found { ¬ IsErrOf result FileAnswer.Failed }
+    ensures memory { IsErrOf result FileAnswer.NoMemory → length bytes.now ≤ limit }
 {
     if limit < bytes.len() {
         return Err(FileAnswer::Long);

@@ -1,7 +1,7 @@
-ghost use Rattle.std.specs.Prelude.{◌≡◌, ◌<◌, ◌≤◌, ◌↔◌, [], length, Some, None, IfOk, IsErr, OnOk, OnErr};
-ghost use Rattle.std.specs.Io.KnownBytes.{WriteAppends};
+ghost use Rattle.std.specs.Prelude.{◌≡◌, ◌<◌, ◌≤◌, ◌↔◌, [], length, take, Some, IfOk, IsErr, OnOk, OnErr};
+ghost use Rattle.std.specs.Io.KnownBytes.{append_known};
 ghost use Rattle.ob_base.specs.Faults.{Rose};
-ghost use Rattle.ob_base.specs.Sink.{WriteTallies};
+ghost use Rattle.ob_base.specs.Sink.{no_tally, tally_known};
 ghost use Rattle.ob_base.specs.Memory.{WriteFails, no_calls, after_write, after_fault, taken_count};
 
 use crate::schedule::Schedule;
@@ -56,7 +56,7 @@ impl MemSink {
 impl Sink for MemSink {
     ghost taken = { λ s. Some s.taken };
 
-    ghost tally = { λ _. None };
+    ghost tally = { λ _. no_tally };
 
     ghost faults = { λ s. s.calls.faults };
 
@@ -64,8 +64,10 @@ impl Sink for MemSink {
     fn write(&mut self, piece: &[u8]) -> Result<usize, Failed>
         ensures within { IfOk result (λ n. n ≤ length piece.now) }
         ensures progress { IfOk result (λ n. 0 < length piece.now → 0 < n) }
-        ensures bytes { WriteAppends (Some self.old.taken) (Some self.new.taken) result piece.now }
-        ensures counted { WriteTallies None None result piece.now }
+        ensures bytes { IfOk result (λ n. Some self.new.taken ≡ append_known (Some self.old.taken) (take n piece.now)) }
+        ensures tallied { IfOk result (λ n. no_tally ≡ tally_known no_tally (take n piece.now)) }
+        ensures bytes_kept { OnErr result (Some self.new.taken ≡ Some self.old.taken) }
+        ensures tally_kept { OnErr result (no_tally ≡ no_tally) }
         ensures quiet { OnOk result (self.new.calls.faults ≡ self.old.calls.faults) }
         ensures cause { OnErr result (Rose self.old.calls.faults self.new.calls.faults) }
         ensures fails { IsErr result ↔ WriteFails self.old piece.now }

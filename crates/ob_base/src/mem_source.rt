@@ -1,7 +1,7 @@
-ghost use Rattle.std.specs.Prelude.{◌≡◌, ◌<◌, ◌≤◌, ◌↔◌, length, Some, IfOk, IsErr, OnOk, OnErr};
-ghost use Rattle.std.specs.Io.KnownBytes.{ReadConsumes};
+ghost use Rattle.std.specs.Prelude.{◌≡◌, ◌<◌, ◌≤◌, ◌↔◌, length, take, Some, IfOk, IsErr, OnOk, OnErr};
+ghost use Rattle.std.specs.Io.KnownBytes.{prepend_known, IsAtEnd};
 ghost use Rattle.ob_base.specs.Faults.{Rose};
-ghost use Rattle.ob_base.specs.Memory.{IsDue, no_calls, after_read, after_fault, given_count};
+ghost use Rattle.ob_base.specs.Memory.{NextFails, no_calls, after_read, after_fault, given_count};
 
 use crate::schedule::Schedule;
 use crate::{Failed, NoMemory, Source};
@@ -63,10 +63,12 @@ impl Source for MemSource {
     /// Gives as many bytes as there are, at most the source's `most` and the length of `buf`.
     fn read(&mut self, buf: &mut [u8]) -> Result<usize, Failed>
         ensures within { IfOk result (λ n. n ≤ length buf.new) }
-        ensures bytes { ReadConsumes (Some self.old.left) (Some self.new.left) result buf.new }
+        ensures bytes { IfOk result (λ n. Some self.old.left ≡ prepend_known (take n buf.new) (Some self.new.left)) }
+        ensures end { IfOk result (λ n. n ≡ 0 → 0 < length buf.new → IsAtEnd (Some self.new.left)) }
+        ensures bytes_kept { OnErr result (Some self.new.left ≡ Some self.old.left) }
         ensures quiet { OnOk result (self.new.calls.faults ≡ self.old.calls.faults) }
         ensures cause { OnErr result (Rose self.old.calls.faults self.new.calls.faults) }
-        ensures fails { IsErr result ↔ IsDue self.old.calls }
+        ensures fails { IsErr result ↔ NextFails self.old.calls }
         ensures count { IfOk result (λ n. n ≡ given_count self.old (length buf.old)) }
         ensures after { IfOk result (λ n. self.new ≡ after_read self.old n) }
         ensures after_failed { OnErr result (self.new ≡ record self.old { calls = after_fault self.old.calls }) }

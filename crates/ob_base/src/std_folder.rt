@@ -1,6 +1,8 @@
-ghost use Rattle.std.specs.Prelude.{◌≡◌, ◌<◌, ◌≤◌, length, None, IfOk, IfSome, IsErrOf, vec_len};
+ghost use Rattle.std.specs.Prelude.{◌≡◌, ◌≢◌, ◌<◌, ◌≤◌, length, None, IfOk, IfSome, IsErrOf, vec_len};
+ghost use Rattle.std.specs.IoError.{error_kind};
 
-use crate::{FaultCount, FileAnswer, Folder};
+use crate::faults::FaultCount;
+use crate::{FileAnswer, Folder};
 use std::alloc::Global;
 use std::fs;
 use std::io::{Error, ErrorKind, Read};
@@ -41,7 +43,8 @@ impl<'a, R: Files> Folder for StdFolder<'a, R> {
     ghost faults = { λ f. f };
 
     /// Reads at most `limit` bytes of the file, and one more to see that it is longer. A file that
-    /// isn't there, and any error of opening or reading it, is a fault.
+    /// isn't there, and any error of opening or reading it but want of memory, is a fault, which
+    /// raises the count by one.
     fn load(&mut self, alloc: Global, name: &str, limit: usize) -> Result<Vec<u8>, FileAnswer> {
         let answer = load_file(self.rt, alloc, name, limit);
         if let Err(FileAnswer::Failed) = answer {
@@ -80,7 +83,8 @@ fn read_limited<R: Read>(alloc: Global, reader: &mut R, limit: usize) -> Result<
 }
 
 fn answer_of(error: &Error) -> FileAnswer
-    ensures { result ≡ FileAnswer.Long → ⊥ }
+    ensures memory { error_kind error.now ≡ ErrorKind.OutOfMemory → result ≡ FileAnswer.NoMemory }
+    ensures others { error_kind error.now ≢ ErrorKind.OutOfMemory → result ≡ FileAnswer.Failed }
 {
     if error.kind() == ErrorKind::OutOfMemory {
         FileAnswer::NoMemory

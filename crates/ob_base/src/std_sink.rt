@@ -1,10 +1,13 @@
-ghost use Rattle.std.specs.Prelude.{◌≡◌, ◌<◌, ◌≤◌, length, None, IfSome};
+ghost use Rattle.std.specs.Prelude.{◌≡◌, ◌<◌, ◌≤◌, length, take, None, IfSome, IfNone};
+ghost use Rattle.std.specs.Io.KnownBytes.{Appends, Keeps};
 
-use crate::{Failed, FaultCount, Sink};
+use crate::faults::FaultCount;
+use crate::{Failed, Sink};
 use std::io::{ErrorKind, Write};
 use std::marker::Model;
 
 /// A writer of std as a sink. It tells nothing of its bytes; contracts see its count of faults.
+/// The writer has to pass its bytes on at once, as standard output does: it is never flushed.
 #[derive(Drop)]
 pub struct StdSink<W> {
     inner: W,
@@ -38,8 +41,9 @@ impl<W: Write> Sink for StdSink<W> {
 
     ghost faults = { λ s. s };
 
-    /// Writes once to the writer, again where a signal interrupted it, and flushes it. Its other
-    /// errors are faults, and so is a write that takes no byte of a piece that isn't empty.
+    /// Writes once to the writer, again where a signal interrupted it. Its other errors are
+    /// faults, and so is a write that takes no byte of a piece that isn't empty; each raises the
+    /// count by one.
     fn write(&mut self, piece: &[u8]) -> Result<usize, Failed> {
         match write_uninterrupted(&mut self.inner, piece) {
             Some(count) => Ok(count),
@@ -54,15 +58,13 @@ impl<W: Write> Sink for StdSink<W> {
 fn write_uninterrupted<W: Write>(inner: &mut W, piece: &[u8]) -> Option<usize>
     ensures within { IfSome result (λ n. n ≤ length piece.now) }
     ensures progress { IfSome result (λ n. 0 < length piece.now → 0 < n) }
+    ensures bytes { IfSome result (λ n. Appends (W.contents inner.old) (W.contents inner.new) (take n piece.now)) }
+    ensures kept { IfNone result (Keeps (W.contents inner.old) (W.contents inner.new)) }
 {
     for _ in 0..u64::MAX {
         match inner.write(piece) {
             Ok(0) if !piece.is_empty() => return None,
-            Ok(count) => return if inner.flush().is_ok() {
-                Some(count)
-            } else {
-                None
-            },
+            Ok(count) => return Some(count),
             Err(error) if error.kind() == ErrorKind::Interrupted => {}
             Err(_) => return None,
         }

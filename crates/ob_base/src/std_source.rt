@@ -1,6 +1,8 @@
-ghost use Rattle.std.specs.Prelude.{◌≡◌, ◌≤◌, length, None, IfSome};
+ghost use Rattle.std.specs.Prelude.{◌≡◌, ◌<◌, ◌≤◌, length, take, None, IfSome, IfNone};
+ghost use Rattle.std.specs.Io.KnownBytes.{Consumes, IsAtEnd, Keeps};
 
-use crate::{Failed, FaultCount, Source};
+use crate::faults::FaultCount;
+use crate::{Failed, Source};
 use std::io::{ErrorKind, Read};
 use std::marker::Model;
 
@@ -37,7 +39,7 @@ impl<R: Read> Source for StdSource<R> {
     ghost faults = { λ s. s };
 
     /// Reads once from the reader, again where a signal interrupted it. Its other errors are
-    /// faults.
+    /// faults, each of which raises the count by one.
     fn read(&mut self, buf: &mut [u8]) -> Result<usize, Failed> {
         match read_uninterrupted(&mut self.inner, buf) {
             Some(count) => Ok(count),
@@ -50,7 +52,10 @@ impl<R: Read> Source for StdSource<R> {
 }
 
 fn read_uninterrupted<R: Read>(inner: &mut R, buf: &mut [u8]) -> Option<usize>
-    ensures { IfSome result (λ n. n ≤ length buf.new) }
+    ensures within { IfSome result (λ n. n ≤ length buf.new) }
+    ensures bytes { IfSome result (λ n. Consumes (R.remaining inner.old) (R.remaining inner.new) (take n buf.new)) }
+    ensures end { IfSome result (λ n. n ≡ 0 → 0 < length buf.new → IsAtEnd (R.remaining inner.new)) }
+    ensures kept { IfNone result (Keeps (R.remaining inner.old) (R.remaining inner.new)) }
 {
     for _ in 0..u64::MAX {
         match inner.read(buf) {

@@ -1,5 +1,5 @@
-use Rattle.std.proofs.Common.{◌≡◌, ◌+◌, ◌<◌, ◌≤◌, ◌++◌, length, take, drop, ap, ◌∙◌, sym, subst, arith}
-use Rattle.std.proofs.lemmas.List.{nil_from_length, drop-drop}
+use Rattle.std.proofs.Common.{◌≡◌, ◌+◌, ◌≤◌, ◌++◌, Some, length, take, drop, ap, ◌∙◌, sym, arith}
+use Rattle.std.proofs.lemmas.List.{drop-drop}
 use Rattle.std.proofs.lemmas.Grind.{common_steps}
 use Rattle.ob_base.proofs.Pieces.{copied_then_rest}
 use Rattle.ob_base.proofs.mem_source.MemSourceSource.read.Goals as goal
@@ -13,5 +13,4 @@ returns-clause-bytes c =
     let within : n ≤ length left = grind (arith, common_steps) in
     let copied : front ≡ take n left = grind (arith, common_steps) in
     let after : drop (c.self.inside.at + n) c.self.inside.bytes.items ≡ drop n left = grind (arith, drop-drop) in
-    let none_left : n ≡ 0 → 0 < length (front ++ behind) → length (drop n left) ≡ 0 = λ none room. grind (arith, common_steps) in
-    (subst (λ r. left ≡ take n (front ++ behind) ++ r) (sym after) (copied_then_rest n left front behind copied within), λ none room. after ∙ nil_from_length _ (none_left none room))
+    ap Some (copied_then_rest n left front behind copied within ∙ ap (λ r. take n (front ++ behind) ++ r) (sym after))
