@@ -4,3 +4,4 @@ pub mod Machine
 pub mod Blocks
 pub mod Ranges
 pub mod Operations
+pub mod Bytes
