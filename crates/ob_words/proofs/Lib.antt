@@ -5,3 +5,5 @@ pub mod Blocks
 pub mod Ranges
 pub mod Operations
 pub mod Bytes
+pub mod Writes
+pub mod Divisions
