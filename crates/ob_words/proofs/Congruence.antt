@@ -57,7 +57,7 @@ times_comm a b = same_in (a *ℤ b) (b *ℤ a) (omega (arith, product_is))
 pub congruent_product : (m : ℕ) (a b c d : ℤ) → IsCongruent m a b → IsCongruent m c d → IsCongruent m (a *ℤ c) (b *ℤ d)
 congruent_product m a b c d h i =
     let second : IsCongruent m (b *ℤ c) (b *ℤ d) =
-      subst (λ z. IsCongruent m z (b *ℤ d)) (times_comm c b) (subst (λ z. IsCongruent m (c *ℤ b) z) (times_comm d b) (congruent_times m c d b i)) in
+    subst (λ z. IsCongruent m z (b *ℤ d)) (times_comm c b) (subst (λ z. IsCongruent m (c *ℤ b) z) (times_comm d b) (congruent_times m c d b i)) in
     congruent_trans m (a *ℤ c) (b *ℤ c) (b *ℤ d) (congruent_times m a b c h) second
 
 -- what is congruent modulo a multiple is congruent

@@ -170,4 +170,4 @@ convert_signed t n e =
     let m = 2 ^ width t in
     let r = residue m n in
     by_highest t n r (2 ^ (width t - 1)) m refl refl (residue_below m n (some t)) (least_signed t e) (halves t)
-      (congruent_sym m (pos r) n (residue_congruent m n (some t))) (nat_lt r (2 ^ (width t - 1))) refl
+    (congruent_sym m (pos r) n (residue_congruent m n (some t))) (nat_lt r (2 ^ (width t - 1))) refl

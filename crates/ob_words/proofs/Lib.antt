@@ -4,3 +4,6 @@ pub mod Machine
 pub mod Blocks
 pub mod Ranges
 pub mod Operations
+pub mod Bytes
+pub mod Writes
+pub mod Divisions
