@@ -3,6 +3,8 @@ ghost use Rattle.ob_tree.specs.First.{IsFirstText};
 ghost use Rattle.ob_tree.specs.declared.first.First.{First};
 ghost use Rattle.ob_tree.specs.declared.first.FirstFault.TheVariants.{NoMemory};
 
+use crate::statement::{read_prints, read_return};
+use crate::text::strip;
 use sqlite_items::Items;
 use std::alloc::{AllocError, Global};
 
@@ -40,11 +42,17 @@ pub fn parse_first(alloc: Global, bytes: &[u8]) -> Result<First, FirstFault>
     ensures ok { IfOk result (λ p. IsFirstText p bytes.now) }
     ensures not_yet { IsErrOf result FirstFault.NotYet → (p : First) → IsFirstText p bytes.now → ⊥ }
 {
-    Err(FirstFault::NoMemory)
+    let Some(body) = strip(bytes, b"int main(void){") else {
+        return Err(FirstFault::NotYet);
+    };
+    let (prints, rest) = read_prints(alloc, body)?;
+    let Some(result) = read_return(alloc, rest)? else {
+        return Err(FirstFault::NotYet);
+    };
+    Ok(First { prints, result })
 }
 
 /// A text of the first form is that of one source.
 pub fn law_first_text()
     ensures { (bytes : List ℕ) (p q : First) → IsFirstText p bytes → IsFirstText q bytes → p ≡ q }
-{
-}
+{}
