@@ -1,8 +1,8 @@
 -- A text begins with at most one run of prints, and is at most one source's.
-use Rattle.std.proofs.Common.{◌≡◌, ◌≢◌, ℕ, List, [], ◌∷◌, ◌++◌, get_or, inl, inr, refl, sym, ap, subst, ◌∙◌, arith, codes}
+use Rattle.std.proofs.Common.{◌≡◌, ◌≢◌, ℕ, List, [], ◌∷◌, ◌++◌, get_or, inl, inr, refl, sym, ap, ◌∙◌, arith, codes}
 use Rattle.std.specs.List.{AllByRecursion, flat_map}
 use Rattle.std.proofs.lemmas.List.{append-nil, append_assoc, flat_map_more, append_cancel_left}
-use Rattle.ob_tree.specs.First.{IsSum, sum_text, print_text, return_text, body_text, first_text, IsFirstText}
+use Rattle.ob_tree.specs.First.{IsSum, sum_text, print_text, return_text, body_text, IsFirstText}
 use Rattle.ob_tree.specs.Pieces.{StartsWithSum, StartsWithPrint, StartsWithPrints}
 use Rattle.ob_tree.specs.declared.first.First.{First}
 use Rattle.ob_tree.proofs.Sums.{same_sum}

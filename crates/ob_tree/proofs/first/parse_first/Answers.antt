@@ -1,5 +1,4 @@
-use Rattle.std.proofs.Common.{rules}
-use Rattle.ob_tree.proofs.Prints.{no_first_opening, no_first_return, first_from_parts}
+use Rattle.ob_tree.proofs.Prints.{no_first_opening, no_first_return}
 use Rattle.ob_tree.proofs.first.parse_first.Goals as goal
 
 pub returns-in_default-clause-not_yet : goal.returns-in_default-clause-not_yet

@@ -1,6 +1,6 @@
-use Rattle.std.proofs.Common.{◌≡◌, ◌≢◌, [], length, codes, ap, sym, ◌∙◌, arith}
+use Rattle.std.proofs.Common.{◌≢◌, [], length, codes, ap, sym, ◌∙◌, arith}
 use Rattle.std.proofs.lemmas.List.{append_cancel_left}
-use Rattle.ob_tree.proofs.Prints.{no_return_end, return_from_parts}
+use Rattle.ob_tree.proofs.Prints.{no_return_end}
 use Rattle.ob_tree.proofs.statement.read_return.Goals as goal
 
 pub returns-in_default-strip : goal.returns-in_default-strip
