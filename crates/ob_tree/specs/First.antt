@@ -1,6 +1,6 @@
 -- The sources that are run so far: a function `main` that prints bytes and returns a number, each written as a sum of constants (C99 6.9.1, 6.8.6.4, 6.5.6, 6.4.4.1), in one spelling.
-use Rattle.std.specs.Prelude.{◌≡◌, ℕ, ◌≤◌, List, ◌++◌, length, map, codes}
-use Rattle.std.specs.List.{AllByRecursion, flat_map, join_with_byte}
+use Rattle.std.specs.Prelude.{◌≡◌, ℕ, ◌≤◌, List, [], ◌∷◌, ◌++◌, length, codes}
+use Rattle.std.specs.List.{AllByRecursion, flat_map}
 use Rattle.std.specs.Fmt.{decimal}
 use Rattle.ob_tree.specs.declared.first.First.{First}
 
@@ -18,9 +18,14 @@ pub record IsSum (constants : List ℕ) : Type 0 where
   pub few : length constants ≤ most_constants
   pub small : AllByRecursion (λ n. n ≤ greatest_constant) constants
 
--- the decimal constants, without leading zeros, joined by `+`
+-- a constant after the first: `+`, then the constant in decimal, without leading zeros
+abbrev pub addend_text : ℕ → List ℕ
+addend_text constant = codes "+" ++ decimal constant
+
+-- the decimal constants joined by `+`
 abbrev pub sum_text : List ℕ → List ℕ
-sum_text constants = join_with_byte 43 (map decimal constants)
+sum_text [] = []
+sum_text (constant ∷ more) = decimal constant ++ flat_map addend_text more
 
 -- `putchar(SUM);`
 abbrev pub print_text : List ℕ → List ℕ

@@ -4,4 +4,8 @@
 
 pub use first::{First, FirstFault, law_first_text, parse_first};
 
+mod constant;
 mod first;
+mod statement;
+mod sum;
+mod text;
