@@ -1,13 +1,13 @@
 //! What holds of the definitions alone. Each law is the contract of a function that does nothing.
 
-ghost use Rattle.std.specs.Prelude.{◌≡◌, ◌≢◌, ◌⊎◌, IfOk, min, max, bit_and, bit_or, bit_xor, int_div, int_rem, ◌≤ℤ◌, ◌<ℤ◌, ◌%◌, All, length, slice_range, ◌+◌, ◌*◌, ◌^◌, ◌<◌, ◌≤◌, ℕ, ℤ, pos, ◌+ℤ◌, ◌-ℤ◌, ◌*ℤ◌, List};
+ghost use Rattle.std.specs.Prelude.{◌≡◌, ◌≢◌, ◌⊎◌, IfOk, IsErr, IsTrue, ◌↔◌, min, max, bit_and, bit_or, bit_xor, int_div, int_rem, ◌≤ℤ◌, ◌<ℤ◌, ◌%◌, All, length, slice_range, ◌+◌, ◌*◌, ◌^◌, ◌<◌, ◌≤◌, ℕ, ℤ, pos, ◌+ℤ◌, ◌-ℤ◌, ◌*ℤ◌, List};
 ghost use Rattle.std.specs.Int.{bit_at};
 ghost use Rattle.ob_words.specs.declared.types.IntType.{IntType};
 ghost use Rattle.ob_words.specs.declared.types.IntType.TheVariants.{Int};
 ghost use Rattle.ob_words.specs.Conversion.{convert, IsConversion};
 ghost use Rattle.ob_words.specs.Types.{width, IsNumber, promote};
 ghost use Rattle.ob_words.specs.Fields.{IsByte, field_at, with_field};
-ghost use Rattle.ob_words.specs.Operators.{IsDivision, floor_div, binary, bits_of};
+ghost use Rattle.ob_words.specs.Operators.{IsDivision, floor_div, divides, binary};
 ghost use Rattle.ob_words.specs.declared.types.BinOp.{BinOp};
 ghost use Rattle.ob_words.specs.Words.{word, number};
 
@@ -58,9 +58,11 @@ pub fn law_promote()
     ensures wide { (t : IntType) → 32 ≤ width t → promote t ≡ t }
 {}
 
-/// What an operator gives is a number of the type.
+/// An operator is refused exactly where it divides by 0 (C99 6.5.5), and what it gives is a number
+/// of the type.
 pub fn law_result()
-    ensures { (op : BinOp) (t : IntType) (a b : ℤ) → IfOk (binary op t a b) (IsNumber t) }
+    ensures refused { (op : BinOp) (t : IntType) (a b : ℤ) → IsErr (binary op t a b) ↔ (IsTrue (divides op) × (b ≡ pos 0)) }
+    ensures number { (op : BinOp) (t : IntType) (a b : ℤ) → IfOk (binary op t a b) (IsNumber t) }
 {}
 
 /// A quotient is truncated toward zero (C99 6.5.5): it and the remainder make up what was divided,
