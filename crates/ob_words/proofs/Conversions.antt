@@ -1,14 +1,14 @@
 -- Conversion gives the one congruent number of the type, and what follows for sums, products and words.
-use Rattle.std.proofs.Common.{◌≡◌, ℕ, zero, suc, ◌+◌, ◌-◌, ◌*◌, ◌/◌, ◌%◌, ◌^◌, ◌<◌, ◌≤◌, Bool, true, false, refl, sym, ap, subst, ◌∙◌, arith, lit<}
-use Rattle.std.specs.Prelude.{ℤ, pos, negsuc, ◌+ℤ◌, ◌-ℤ◌, ◌*ℤ◌, neg_ℤ, unsigned_abs, ◌≤ℤ◌, ◌<ℤ◌, nat_lt, if◌then◌else◌}
+use Rattle.std.proofs.Common.{◌≡◌, ℕ, ◌+◌, ◌-◌, ◌*◌, ◌^◌, ◌<◌, ◌≤◌, Bool, true, false, refl, sym, ap, subst, ◌∙◌, arith, lit<}
+use Rattle.std.specs.Prelude.{ℤ, pos, ◌+ℤ◌, ◌-ℤ◌, ◌*ℤ◌, neg_ℤ, unsigned_abs, nat_lt, if◌then◌else◌}
 use Rattle.std.proofs.lemmas.Int.{ints}
-use Rattle.std.proofs.lemmas.Nat.{pow_pos}
-use borrow.Author.Differences.{up, down, same_in, same_out, sum_is_lem, neg_is, product_is}
+use Rattle.std.proofs.lemmas.Nat.{pow_pos, pow-add}
+use borrow.Author.Differences.{same_out, sum_is_lem, neg_is}
 use Rattle.ob_words.specs.declared.types.IntType.{IntType}
 use Rattle.ob_words.specs.declared.types.IntType.TheVariants.{Char, SChar, UChar, Short, UShort, Int, UInt, Long, ULong, LLong, ULLong}
 use Rattle.ob_words.specs.Words.{word, number}
 use borrow.Author.Tests.{ltb-true, ltb-false}
-use Rattle.ob_words.specs.Types.{width, signed, least, past, IsNumber}
+use Rattle.ob_words.specs.Types.{width, signed, least, IsNumber}
 use Rattle.ob_words.specs.Conversion.{IsCongruent, residue, convert, twos_complement, IsConversion}
 use Rattle.ob_words.proofs.Congruence.{congruent, factors, congruent_refl, congruent_sym, congruent_trans, congruent_sum, congruent_difference, congruent_product, congruent_coarser, residue_is, residue_below, residue_congruent, residue_same}
 
@@ -75,6 +75,14 @@ convert_difference t a b = convert_same t (convert t a -ℤ convert t b) (a -ℤ
 
 pub convert_product : (t : IntType) (a b : ℤ) → convert t (convert t a *ℤ convert t b) ≡ convert t (a *ℤ b)
 convert_product t a b = convert_same t (convert t a *ℤ convert t b) (a *ℤ b) (congruent_product (2 ^ width t) (convert t a) a (convert t b) b (convert_congruent t a) (convert_congruent t b))
+
+-- a conversion to a type that isn't narrower changes nothing for a conversion that follows
+pub convert_wider : (t u : IntType) (n : ℤ) → width t ≤ width u → convert t (convert u n) ≡ convert t n
+convert_wider t u n h =
+    let more = width u - width t in
+    let sum : width u ≡ more + width t = omega arith in
+    let modulus : 2 ^ width u ≡ 2 ^ more * 2 ^ width t = ap (λ k. 2 ^ k) sum ∙ pow-add 2 more (width t) in
+    convert_same t (convert u n) n (congruent_coarser (2 ^ width t) (2 ^ width u) (2 ^ more) (convert u n) n modulus (convert_congruent u n))
 
 -- ---- words
 

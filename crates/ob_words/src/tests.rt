@@ -23,11 +23,12 @@ static OPERATORS: [BinOp; 8] = [
 
 #[test]
 fn types_agree(rt: HostRuntime) {
-    for (t, bits, sign, promoted, commons) in &COMMON {
+    let rows = COMMON;
+    for (t, bits, sign, promoted, commons) in &rows {
         assert_eq!(rt; width(*t), *bits, "at {t:?}");
         assert_eq!(rt; signed(*t), *sign, "at {t:?}");
         assert_eq!(rt; promote(*t), *promoted, "at {t:?}");
-        for (row, want) in COMMON.iter().zip(commons) {
+        for (row, want) in rows.iter().zip(commons) {
             assert_eq!(rt; common(*t, row.0), *want, "at {t:?}");
         }
     }

@@ -1,8 +1,8 @@
-use Rattle.std.proofs.Common.{◌≡◌, ◌^◌, ℕ, ◌<◌, ℤ, pos, FitsSigned, to_z, of_z, sym, ap, ◌∙◌, subst, true, false, arith, lt_of_lt_of_le, lit≤}
+use Rattle.std.proofs.Common.{◌≡◌, ◌^◌, pos, FitsSigned, sym, ap, ◌∙◌, subst, arith}
 use Rattle.std.specs.Int.{w128}
 use Rattle.std.proofs.lemmas.Int.{to_z-of_z, to_z_pos}
-use Rattle.ob_words.specs.Types.{width, signed}
-use Rattle.ob_words.specs.Conversion.{convert, residue, twos_complement, IsConversion}
+use Rattle.ob_words.specs.Types.{width}
+use Rattle.ob_words.specs.Conversion.{residue, twos_complement, IsConversion}
 use Rattle.ob_words.proofs.Conversions.{conversion, convert_signed, convert_unsigned}
 use Rattle.ob_words.proofs.conversion.convert.Goals as goal
 

@@ -1,5 +1,5 @@
-use Rattle.std.proofs.Common.{◌≡◌, ◌+◌, ◌≤◌, length, ℕ, ◌∙◌, arith}
-use Rattle.ob_words.proofs.Bytes.{one_byte, copied_field, last_size, from_2, from_4, from_8}
+use Rattle.std.proofs.Common.{◌≡◌, ◌∙◌, arith}
+use Rattle.ob_words.proofs.Bytes.{one_byte, copied_field, from_2, from_4, from_8}
 use Rattle.ob_words.proofs.fields.get_le.Goals as goal
 
 pub returns-in-1 : goal.returns-in-1

@@ -1,10 +1,8 @@
-use Rattle.std.proofs.Common.{◌≡◌, ◌^◌, ◌<◌, ◌≤◌, ℕ, ◌*◌, ◌%◌, bit_and, bit_or, ℤ, FitsSigned, to_z, of_z, arith, lit≤, lt_trans, refl, subst, sym, ap, ◌∙◌}
-use Rattle.std.specs.Prelude.{IsFalse, bit_xor}
+use Rattle.std.proofs.Common.{◌^◌, ◌<◌, ◌*◌, ◌%◌, bit_and, bit_or, arith, refl, subst, sym, ap, ◌∙◌}
+use Rattle.std.specs.Prelude.{bit_xor}
 use Rattle.std.specs.Int.{w128}
 use Rattle.std.proofs.lemmas.Int.{to_z-of_z, rem_is}
-use Rattle.ob_words.specs.declared.types.BinOp.{BinOp}
 use Rattle.ob_words.specs.declared.types.BinOp.TheVariants.{Add, Sub, Mul, Div, Rem, And, Or, Xor, Shl, Shr}
-use Rattle.ob_words.specs.Types.{IsNumber}
 use Rattle.ob_words.specs.Conversion.{convert}
 use Rattle.ob_words.specs.Words.{word, number}
 use Rattle.ob_words.specs.Operators.{shifts, places}
