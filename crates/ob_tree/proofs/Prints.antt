@@ -1,7 +1,7 @@
 -- A text begins with at most one run of prints, and is at most one source's.
 use Rattle.std.proofs.Common.{◌≡◌, ◌≢◌, ℕ, List, [], ◌∷◌, ◌++◌, get_or, inl, inr, refl, sym, ap, ◌∙◌, arith, codes}
 use Rattle.std.specs.List.{AllByRecursion, flat_map}
-use Rattle.std.proofs.lemmas.List.{append-nil, append_assoc, flat_map_more, append_cancel_left}
+use Rattle.std.proofs.lemmas.List.{append-nil, append_assoc, append_cancel_left}
 use Rattle.ob_tree.specs.First.{IsSum, sum_text, print_text, return_text, body_text, IsFirstText}
 use Rattle.ob_tree.specs.Pieces.{StartsWithSum, StartsWithPrint, StartsWithPrints}
 use Rattle.ob_tree.specs.declared.first.First.{First}
@@ -21,21 +21,6 @@ sum_of_print text inner constants rest h opens = record {
   spells = append_cancel_left (codes "putchar(") _ _ (sym (print_parts constants rest) ∙ h.spells ∙ opens);
 }
 
--- a print from its parts
-pub print_from_parts : (text inner constants end rest : List ℕ) → text ≡ codes "putchar(" ++ inner → StartsWithSum inner constants end → end ≡ codes ");" ++ rest → StartsWithPrint text constants rest
-print_from_parts text inner constants end rest opens h closes = record {
-  sum = h.sum;
-  spells = print_parts constants rest ∙ ap (λ x. codes "putchar(" ++ (sum_text constants ++ x)) (sym closes) ∙ ap (λ x. codes "putchar(" ++ x) h.spells ∙ sym opens;
-}
-
--- no opening, no print
-pub no_print_opening : (text : List ℕ) → ((inner : List ℕ) → text ≢ codes "putchar(" ++ inner) → (constants rest : List ℕ) → StartsWithPrint text constants rest → ⊥
-no_print_opening text none constants rest h = none (sum_text constants ++ (codes ");" ++ rest)) (sym h.spells ∙ print_parts constants rest)
-
--- no sum, no print
-pub no_print_sum : (text inner : List ℕ) → text ≡ codes "putchar(" ++ inner → ((constants rest : List ℕ) → StartsWithSum inner constants rest → ⊥) → (constants rest : List ℕ) → StartsWithPrint text constants rest → ⊥
-no_print_sum text inner opens none constants rest h = none constants (codes ");" ++ rest) (sum_of_print text inner constants rest h opens)
-
 -- no end, no print
 pub no_print_end : (text inner got end : List ℕ) → text ≡ codes "putchar(" ++ inner → StartsWithSum inner got end → ((rest : List ℕ) → end ≢ codes ");" ++ rest) → (constants rest : List ℕ) → StartsWithPrint text constants rest → ⊥
 no_print_end text inner got end opens sum none constants rest h =
@@ -49,10 +34,6 @@ same_print text m n r s h k =
     let same = same_sum inner m n (codes ");" ++ r) (codes ");" ++ s) (sum_of_print text inner m r h opens) (sum_of_print text inner n s k opens) in
     (same.0, append_cancel_left (codes ");") r s same.1)
 
--- a return's sum and its end
-return_parts : (constants : List ℕ) → return_text constants ≡ codes "return " ++ (sum_text constants ++ codes ";}")
-return_parts constants = refl
-
 -- the sum of a return
 pub sum_of_return : (text inner constants : List ℕ) → IsSum constants → return_text constants ≡ text → text ≡ codes "return " ++ inner → StartsWithSum inner constants (codes ";}")
 sum_of_return text inner constants sum spells opens = record {
@@ -60,22 +41,6 @@ sum_of_return text inner constants sum spells opens = record {
   ends = (inr (omega arith), λ plus. let same : 59 ≡ 43 = plus in omega arith);
   spells = append_cancel_left (codes "return ") _ _ (spells ∙ opens);
 }
-
--- a return from its parts
-pub return_from_parts : (text inner constants end rest : List ℕ) → text ≡ codes "return " ++ inner → StartsWithSum inner constants end → end ≡ codes ";}" ++ rest → rest ≡ [] → return_text constants ≡ text
-return_from_parts text inner constants end rest opens h closes nothing =
-    ap (λ x. codes "return " ++ (sum_text constants ++ (codes ";}" ++ x))) (sym nothing)
-    ∙ ap (λ x. codes "return " ++ (sum_text constants ++ x)) (sym closes)
-    ∙ ap (λ x. codes "return " ++ x) h.spells
-    ∙ sym opens
-
--- no opening, no return
-pub no_return_opening : (text : List ℕ) → ((inner : List ℕ) → text ≢ codes "return " ++ inner) → (constants : List ℕ) → IsSum constants → return_text constants ≡ text → ⊥
-no_return_opening text none constants sum spells = none (sum_text constants ++ codes ";}") (sym spells)
-
--- no sum, no return
-pub no_return_sum : (text inner : List ℕ) → text ≡ codes "return " ++ inner → ((constants rest : List ℕ) → StartsWithSum inner constants rest → ⊥) → (constants : List ℕ) → IsSum constants → return_text constants ≡ text → ⊥
-no_return_sum text inner opens none constants sum spells = none constants (codes ";}") (sum_of_return text inner constants sum spells opens)
 
 -- no end, no return, and none with more after it
 pub no_return_end : (text inner got end : List ℕ) → text ≡ codes "return " ++ inner → StartsWithSum inner got end → ((rest : List ℕ) → end ≡ codes ";}" ++ rest → rest ≢ []) → (constants : List ℕ) → IsSum constants → return_text constants ≡ text → ⊥
@@ -109,21 +74,6 @@ more_prints (a ∷ all) (g ∷ got) result s all_sums got_sums e =
     let go = more_prints all got result s all_sums.1 got_sums.1 same.1 in
     record { more = go.more; sums = go.sums; longer_is = (let x = go.longer_is in let y = same.0 in cc); rest_is = go.rest_is }
 
-all_sums_push : (prints : List (List ℕ)) (constants : List ℕ) → AllByRecursion IsSum prints → IsSum constants → AllByRecursion IsSum (prints ++ constants ∷ [])
-all_sums_push [] constants all sum = (sum, tt)
-all_sums_push (p ∷ prints) constants all sum = (all.0, all_sums_push prints constants all.1 sum)
-
--- one more print
-pub prints_push : (text : List ℕ) (prints : List (List ℕ)) (rest constants next : List ℕ) → StartsWithPrints text prints rest → StartsWithPrint rest constants next → StartsWithPrints text (prints ++ constants ∷ []) next
-prints_push text prints rest constants next h k = record {
-  sums = all_sums_push prints constants h.sums k.sum;
-  spells =
-      ap (λ x. x ++ next) (sym (flat_map_more print_text [] prints constants))
-      ∙ append_assoc (flat_map print_text prints) (print_text constants) next
-      ∙ ap (λ x. flat_map print_text prints ++ x) k.spells
-      ∙ h.spells;
-}
-
 -- a return is no print
 return_ends : (more : List (List ℕ)) (result other : List ℕ) → return_text result ≡ flat_map print_text more ++ return_text other → more ≡ []
 return_ends [] result other e = refl
@@ -146,14 +96,6 @@ no_first_return bytes body prints rest opens h no_print no_return p first =
     goes_on : (more : List (List ℕ)) → AllByRecursion IsSum more → flat_map print_text more ++ return_text p.result ≡ rest → IsSum p.result → ⊥
     goes_on [] sums e sum = no_return p.result sum e
     goes_on (m ∷ more) sums e sum = no_print m (flat_map print_text more ++ return_text p.result) (first_print rest m more (return_text p.result) sums.0 e)
-
--- a first text from its parts
-pub first_from_parts : (bytes body : List ℕ) (p : First) (rest : List ℕ) → bytes ≡ codes "int main(void){" ++ body → StartsWithPrints body p.prints rest → IsSum p.result → return_text p.result ≡ rest → IsFirstText p bytes
-first_from_parts bytes body p rest opens h sum spells = record {
-  prints = h.sums;
-  result = sum;
-  text = ap (λ x. codes "int main(void){" ++ (flat_map print_text p.prints ++ x)) spells ∙ ap (λ x. codes "int main(void){" ++ x) h.spells ∙ sym opens;
-}
 
 -- a text is the first text of one source
 pub same_first : (bytes : List ℕ) (p q : First) → IsFirstText p bytes → IsFirstText q bytes → p ≡ q
