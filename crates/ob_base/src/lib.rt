@@ -33,3 +33,6 @@ mod std_folder;
 mod std_sink;
 mod std_source;
 mod text;
+
+#[cfg(test)]
+mod tests;
