@@ -32,7 +32,6 @@ mod source;
 mod std_folder;
 mod std_sink;
 mod std_source;
-mod text;
-
 #[cfg(test)]
 mod tests;
+mod text;

@@ -67,7 +67,11 @@ fn load_file<R: Files>(
 }
 
 /// All bytes of a reader, where they are at most `limit`; else `Long`, after one byte more.
-pub(crate) fn read_limited<R: Read>(alloc: Global, reader: &mut R, limit: usize) -> Result<Vec<u8>, FileAnswer>
+pub(crate) fn read_limited<R: Read>(
+    alloc: Global,
+    reader: &mut R,
+    limit: usize,
+) -> Result<Vec<u8>, FileAnswer>
     ensures within { IfOk result (λ bytes. vec_len bytes ≤ limit) }
     ensures whole { IfSome (R.remaining reader.old) (λ all. IfOk result (λ bytes. bytes.items ≡ all)) }
     ensures long { IfSome (R.remaining reader.old) (λ all. IsErrOf result FileAnswer.Long → limit < length all) }

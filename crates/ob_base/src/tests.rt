@@ -1,43 +1,64 @@
 //! What no clause says: that the calls that may lack memory find it, and what the adapters do over
 //! readers, writers and files of std.
 use crate::std_folder::read_limited;
-use crate::{Failed, FileAnswer, Folder, MemFolder, MemSink, MemSource, Sink, Source, StdFolder};
-use crate::{StdSink, StdSource, Text, write_all};
+use crate::{
+    Failed, FileAnswer, Folder, MemFolder, MemSink, MemSource, Sink, Source, StdFolder, StdSink,
+    StdSource, Text, write_all,
+};
 use std::io::{self, Read, Write};
 use std::test::Fail;
 
 #[test]
-fn memory_devices_find_memory(rt: HostRuntime) -> Result<(), Fail> {
-    let alloc = rt.alloc();
-    let mut text = Text::new(alloc);
+fn texts_grow(rt: HostRuntime) -> Result<(), Fail> {
+    let mut text = Text::new(rt.alloc());
     text.push(b'a')?;
     text.add(b"bc")?;
     assert_eq!(rt; text.bytes(), b"abc".as_slice());
+    Ok(())
+}
 
-    let mut source = MemSource::new(alloc, b"abcd", &[1], 3)?;
+#[test]
+fn source_in_memory(rt: HostRuntime) -> Result<(), Fail> {
+    let mut source = MemSource::new(rt.alloc(), b"abcd", &[1], 3)?;
     let mut buf = [0u8; 8];
-    assert_eq!(rt; source.read(&mut buf), Ok(3));
-    assert_eq!(rt; source.read(&mut buf), Err(Failed));
-    assert_eq!(rt; source.read(&mut buf), Ok(1));
-    assert_eq!(rt; source.read(&mut buf), Ok(0));
+    for given in [Ok(3), Err(Failed), Ok(1), Ok(0)] {
+        assert_eq!(rt; source.read(&mut buf), given);
+    }
+    Ok(())
+}
 
-    let mut sink = MemSink::new(alloc, 4, &[1], 2)?;
-    assert_eq!(rt; sink.write(b"abc"), Ok(2));
-    assert_eq!(rt; sink.write(b"c"), Err(Failed));
-    assert_eq!(rt; sink.write(b"cde"), Ok(2));
-    assert_eq!(rt; sink.write(b""), Ok(0));
-    assert_eq!(rt; sink.write(b"e"), Err(Failed));
+#[test]
+fn sink_in_memory(rt: HostRuntime) -> Result<(), Fail> {
+    let mut sink = MemSink::new(rt.alloc(), 4, &[1], 2)?;
+    for (piece, taken) in [
+        ("abc", Ok(2)),
+        ("c", Err(Failed)),
+        ("cde", Ok(2)),
+        ("", Ok(0)),
+        ("e", Err(Failed)),
+    ] {
+        assert_eq!(rt; sink.write(piece.as_bytes()), taken);
+    }
     assert_eq!(rt; sink.taken(), b"abcd".as_slice());
+    Ok(())
+}
 
+#[test]
+fn folder_in_memory(rt: HostRuntime) -> Result<(), Fail> {
+    let alloc = rt.alloc();
     let mut folder = MemFolder::new(alloc, &[1])?;
     folder.add("a", b"old")?;
-    folder.add("b", b"other")?;
     folder.add("a", b"new")?;
     let loaded = folder.load(alloc, "a", 3);
     assert_eq!(rt; loaded.ok().ok_or("a")?.as_slice(), b"new".as_slice());
-    assert_eq!(rt; folder.load(alloc, "a", 3).err(), Some(FileAnswer::Failed));
-    assert_eq!(rt; folder.load(alloc, "b", 4).err(), Some(FileAnswer::Long));
-    assert_eq!(rt; folder.load(alloc, "c", 4).err(), Some(FileAnswer::Failed));
+    let refusals = [
+        ("a", FileAnswer::Failed),
+        ("a", FileAnswer::Long),
+        ("c", FileAnswer::Failed),
+    ];
+    for (name, answer) in refusals {
+        assert_eq!(rt; folder.load(alloc, name, 2).err(), Some(answer));
+    }
     Ok(())
 }
 
@@ -119,7 +140,10 @@ fn adapter_over_files(rt: HostRuntime) -> Result<(), Fail> {
     let whole = folder.load(alloc, "five", 5);
     assert_eq!(rt; whole.ok().ok_or("five")?.as_slice(), b"12345".as_slice());
     assert_eq!(rt; folder.load(alloc, "five", 4).err(), Some(FileAnswer::Long));
-    assert_eq!(rt; folder.load(alloc, "six", 4).err(), Some(FileAnswer::Failed));
+    assert_eq!(rt;
+        folder.load(alloc, "six", 4).err(),
+        Some(FileAnswer::Failed)
+    );
     assert_eq!(rt; folder.load(alloc, ".", 4).err(), Some(FileAnswer::Failed));
     Ok(())
 }
@@ -128,6 +152,9 @@ fn adapter_over_files(rt: HostRuntime) -> Result<(), Fail> {
 #[test]
 fn long_files_are_left(rt: HostRuntime) {
     let mut reader = b"123456789".as_slice();
-    assert_eq!(rt; read_limited(rt.alloc(), &mut reader, 4).err(), Some(FileAnswer::Long));
+    assert_eq!(rt;
+        read_limited(rt.alloc(), &mut reader, 4).err(),
+        Some(FileAnswer::Long)
+    );
     assert_eq!(rt; reader, b"6789".as_slice());
 }

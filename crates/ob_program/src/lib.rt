@@ -12,3 +12,6 @@ mod job;
 mod program;
 mod source;
 mod status;
+
+#[cfg(test)]
+mod tests;
