@@ -7,8 +7,8 @@ use Rattle.ob_words.specs.declared.types.IntType.TheVariants.{Int}
 use Rattle.ob_words.specs.Conversion.{convert}
 use Rattle.ob_words.proofs.Conversions.{convert_sum, convert_twice}
 use Rattle.ob_machine.specs.declared.first.FirstInstr.{FirstInstr}
-use Rattle.ob_machine.specs.declared.first.FirstInstr.TheVariants.{Set, Add, Put, End}
-use Rattle.ob_machine.specs.First.{FirstRun, after_bytes, byte_of, first_run, sum_value, sum_code, print_code}
+use Rattle.ob_machine.specs.declared.first.FirstInstr.TheVariants.{Add, Put, End}
+use Rattle.ob_machine.specs.First.{after_bytes, byte_of, first_run, sum_value, sum_code, print_code}
 
 -- a sum of an `int` and a constant, where the `int` was converted before
 convert_sum_left : (a : ℤ) (b : ℤ) → convert Int (convert Int a +ℤ b) ≡ convert Int (a +ℤ b)

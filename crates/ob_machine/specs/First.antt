@@ -1,6 +1,5 @@
 -- A machine with one number, of type `int` (C99 6.2.5), and what it computes. A sum that leaves the range of `int` wraps: it is the one number of the type that is congruent to it (6.3.1.3).
 use Rattle.std.specs.Prelude.{◌≡◌, ℕ, ℤ, pos, ◌+ℤ◌, List, [], ◌∷◌, ◌++◌, map, sum, Option}
-use Rattle.std.specs.List.{flat_map}
 use Rattle.std.specs.Io.KnownBytes.{append_known}
 use Rattle.ob_base.specs.Faults.{Rose}
 use Rattle.ob_base.specs.Sink.{Tally, TakesPrefix, tally_known}

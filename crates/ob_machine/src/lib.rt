@@ -6,6 +6,5 @@ pub use first::{FirstEnd, FirstInstr, lower_first, run_code};
 
 mod first;
 mod output;
-
 #[cfg(test)]
 mod tests;

@@ -6,7 +6,8 @@ use std::test::Fail;
 
 #[test]
 fn hello_writes_hi(rt: HostRuntime) -> Result<(), Fail> {
-    let text = b"int main(void){putchar(72);putchar(2147483647+2147483647+107);return 2147483647+2;}";
+    let text =
+        b"int main(void){putchar(72);putchar(2147483647+2147483647+107);return 2147483647+2;}";
     let source = parse_first(rt.alloc(), text)?;
     let code = lower_first(rt.alloc(), &source)?;
     let mut sink = MemSink::new(rt.alloc(), 1_048_576, &[], 1)?;

@@ -1,12 +1,12 @@
 -- The clauses of the program, from what the words came to and how that was told.
 use Rattle.std.proofs.Common.{◌≡◌, ◌≢◌, ℕ, ◌<◌, ◌≤◌, List, [], length, take, Option, Some, None, inl, inr, ◌⊎◌, refl, sym, ap, ◌∙◌, subst, arith, le_refl}
-use Rattle.std.specs.Prelude.{ℤ, pos, IsSomeAnd}
+use Rattle.std.specs.Prelude.{ℤ, IsSomeAnd}
 use Rattle.std.specs.FinMap.{get}
 use Rattle.std.proofs.lemmas.List.{take_all}
 use Rattle.std.proofs.Math.Seq.{take-nil}
 use Rattle.std.specs.Io.KnownBytes.{append_known}
 use Rattle.ob_base.specs.Faults.{NoFault, Rose}
-use Rattle.ob_base.specs.Folder.{Files, IsMissing}
+use Rattle.ob_base.specs.Folder.{Files}
 use Rattle.ob_base.specs.Sink.{Tally, TakesPrefix, tally_known}
 use Rattle.ob_base.proofs.Appending.{append_known-nil, tally_known-nil}
 use Rattle.ob_words.specs.Conversion.{residue}
@@ -19,9 +19,9 @@ use Rattle.ob_program.specs.declared.answer.Answer.{Answer}
 use Rattle.ob_program.specs.declared.answer.Answer.TheVariants.{Ended, Usage, FileFault, FileLong, NotYet, WriteFault, NoMemory}
 use Rattle.ob_program.specs.Answer.{Output, IsUntouched, IsTold, JobGives, NameGives, LoadGives, SourceGives, line_of, status_of}
 use Rattle.ob_program.specs.Job.{job_of}
-use Rattle.ob_program.specs.Lines.{usage_line, file_fault_line, file_long_line, not_yet_line}
-use Rattle.ob_program.specs.Run.{GivesWay, IsLong, IsOther, IsSource, NamesNone, Ran, TakesPrefixOfLine, TellsFiles, most_source_bytes}
-use Rattle.ob_program.proofs.Files.{Named, named, names_file, same_some}
+use Rattle.ob_program.specs.Lines.{file_long_line, not_yet_line}
+use Rattle.ob_program.specs.Run.{most_source_bytes}
+use Rattle.ob_program.proofs.Files.{Named, same_some}
 
 -- what a told file of these bytes came to
 abbrev pub FileCame : List ℕ → ℕ → ℕ → Answer → Output → Type 0

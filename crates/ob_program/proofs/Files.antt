@@ -1,10 +1,10 @@
 -- What it is for the words to name a file, taken apart.
-use Rattle.std.proofs.Common.{◌≡◌, ℕ, ◌≤◌, List, length, Option, Some, None, refl, sym, ◌∙◌, subst}
+use Rattle.std.proofs.Common.{◌≡◌, ℕ, List, Option, Some, None, refl, sym, ◌∙◌, subst}
 use Rattle.std.specs.Prelude.{IsSomeAnd}
 use Rattle.std.specs.FinMap.{get}
-use Rattle.ob_base.specs.Folder.{Files, IsMissing}
+use Rattle.ob_base.specs.Folder.{Files}
 use Rattle.ob_program.specs.Job.{job_of}
-use Rattle.ob_program.specs.Run.{HasFile, NamesFile, NamesNone}
+use Rattle.ob_program.specs.Run.{HasFile, NamesFile}
 
 -- the job names a file of the folder, and its bytes have P
 pub record Named (job : Option (List ℕ)) (files : Option Files) (P : List ℕ → Type 0) : Type 0 where

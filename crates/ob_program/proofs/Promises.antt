@@ -1,9 +1,8 @@
 -- Each clause of the program, from what the words came to and how that was told.
-use Rattle.std.proofs.Common.{◌≡◌, ◌≢◌, ℕ, ◌<◌, ◌≤◌, List, [], length, Option, Some, None, inl, inr, ◌⊎◌, Bool, true, refl, sym, ap, ◌∙◌, subst, arith}
+use Rattle.std.proofs.Common.{◌≡◌, ◌≢◌, ℕ, ◌<◌, ◌≤◌, List, length, Option, Some, None, inl, inr, ◌⊎◌, true, refl, sym, ap, ◌∙◌, subst, arith}
 use Rattle.std.proofs.lemmas.Bool.{false≢true}
-use Rattle.std.specs.Prelude.{ℤ, IsSomeAnd, IsSome, IfSome, is_some}
+use Rattle.std.specs.Prelude.{IsSomeAnd, IsSome, IfSome, is_some}
 use Rattle.std.proofs.lemmas.Bool.Decides.{nat_tests}
-use Rattle.std.specs.FinMap.{get}
 use Rattle.std.specs.Io.KnownBytes.{append_known}
 use Rattle.ob_base.specs.Faults.{NoFault, Rose}
 use Rattle.ob_base.specs.Folder.{Files, IsMissing}
@@ -11,15 +10,15 @@ use Rattle.ob_base.specs.Sink.{TakesPrefix}
 use Rattle.ob_words.specs.Conversion.{residue}
 use Rattle.ob_tree.specs.declared.first.First.{First}
 use Rattle.ob_tree.specs.First.{IsFirstText}
-use Rattle.ob_machine.specs.First.{printed, sum_value}
+use Rattle.ob_machine.specs.First.{printed}
 use Rattle.ob_program.specs.declared.answer.Answer.{Answer}
 use Rattle.ob_program.specs.declared.answer.Answer.TheVariants.{Ended, Usage, FileFault, FileLong, NotYet, WriteFault, NoMemory}
-use Rattle.ob_program.specs.Answer.{Output, IsUntouched, IsTold, JobGives, NameGives, IsToldLong, LoadGives, SourceGives, line_of, status_of}
+use Rattle.ob_program.specs.Answer.{Output, IsUntouched, IsTold, JobGives, NameGives, IsToldLong, LoadGives, line_of, status_of}
 use Rattle.ob_program.specs.Job.{job_of}
 use Rattle.ob_program.specs.Lines.{usage_line, file_fault_line, file_long_line, not_yet_line, refusal_line}
 use Rattle.ob_program.specs.Run.{GivesWay, HasFile, IsLong, IsOther, IsSource, NamesFile, NamesNone, Ran, TakesPrefixOfLine, TellsFiles, most_source_bytes}
-use Rattle.ob_program.proofs.Files.{Named, named, names_file, some_and_of}
-use Rattle.ob_program.proofs.Clauses.{FileCame, Fits, Written, JobCame, LinePrefix, named_came, runs, out_prefix, long_line, other_line, source_line, untouched_prefix, empty_prefix, told_prefix, status_is, ended_small, is_usage, is_file_fault, is_file_long, is_not_yet, job_came}
+use Rattle.ob_program.proofs.Files.{named, names_file, some_and_of}
+use Rattle.ob_program.proofs.Clauses.{Fits, Written, JobCame, LinePrefix, named_came, runs, out_prefix, long_line, other_line, source_line, empty_prefix, told_prefix, status_is, ended_small, is_usage, is_file_fault, is_file_long, is_not_yet, job_came}
 
 -- an answer that the words came to, and that was told
 pub record Came (words : List (List ℕ)) (files : Option Files) (before now status : ℕ) (o e : Output) : Type 0 where
@@ -144,7 +143,7 @@ ran_of words files before now status o (Ended number) (inr came) is small tells 
       source = l.1.2.0;
       is_source = loaded_of words files came.name (Ended number) o came.job_is tells l (λ bytes. Fits l.1.2.0 bytes) (l.1.1, l.1.2.1.0);
       status_is = is ∙ ap (residue 128) r.0;
-      written = r.1
+      written = r.1;
     }
 
 ran_told : (words : List (List ℕ)) (files : Option Files) (before now status : ℕ) (o e : Output) (a : Answer) → Ways words files before now a o → IsTold a status e → status < 128 → TellsFiles files → Ran words files status o.taken_before o.taken_now
@@ -233,5 +232,5 @@ module _ {words : List (List ℕ)} {files : Option Files} {before now status : �
         missing = λ missing. missing_prefix words files before now o e c.answer (ways c) missing line;
         long = λ long nf. let P : List ℕ → Type 0 = λ bytes. most_source_bytes < length bytes in let n = named words files P long in long_line n.bytes before now c.answer o e n.holds (named_came words files before now P c.answer o n c.gives) nf line;
         other = λ other nf. let P : List ℕ → Type 0 = λ bytes. (length bytes ≤ most_source_bytes) × ((p : First) → ¬ IsFirstText p bytes) in let n = named words files P other in other_line n.bytes before now c.answer o e n.holds.0 n.holds.1 (named_came words files before now P c.answer o n c.gives) nf line;
-        source = λ p source nf. let P : List ℕ → Type 0 = λ bytes. Fits p bytes in let n = named words files P source in source_line p n.bytes before now c.answer o e n.holds (named_came words files before now P c.answer o n c.gives) nf line
+        source = λ p source nf. let P : List ℕ → Type 0 = λ bytes. Fits p bytes in let n = named words files P source in source_line p n.bytes before now c.answer o e n.holds (named_came words files before now P c.answer o n c.gives) nf line;
       }

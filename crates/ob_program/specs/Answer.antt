@@ -1,5 +1,5 @@
 -- What the words can come to: its status, its line, when it comes, and what it leaves of the output.
-use Rattle.std.specs.Prelude.{◌≡◌, ℕ, ℤ, ◌<◌, ◌≤◌, ◌⊎◌, List, [], length, ⊤, Option, Some, None, IsSomeAnd}
+use Rattle.std.specs.Prelude.{◌≡◌, ℕ, ◌<◌, ◌≤◌, ◌⊎◌, List, [], length, ⊤, Option, Some, None, IsSomeAnd}
 use Rattle.std.specs.FinMap.{get}
 use Rattle.ob_base.specs.Faults.{Rose}
 use Rattle.std.specs.Io.KnownBytes.{append_known}
@@ -12,7 +12,6 @@ use Rattle.ob_machine.specs.First.{meaning, RunsTo}
 use Rattle.ob_machine.specs.declared.first.FirstEnd as end
 use Rattle.ob_program.specs.declared.answer.Answer.{Answer}
 use Rattle.ob_program.specs.declared.answer.Answer.TheVariants.{Ended, Usage, FileFault, FileLong, NotYet, WriteFault, NoMemory}
-use Rattle.ob_program.specs.Job.{job_of}
 use Rattle.ob_program.specs.Lines.{usage_line, file_fault_line, file_long_line, not_yet_line}
 use Rattle.ob_program.specs.Run.{most_source_bytes}
 

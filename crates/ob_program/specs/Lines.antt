@@ -1,5 +1,5 @@
 -- The lines that the program writes to the error sink, each ended by a line feed.
-use Rattle.std.specs.Prelude.{ℕ, List, [], ◌++◌, ◌==◌, codes, Option, Some, None, if◌then◌else◌}
+use Rattle.std.specs.Prelude.{ℕ, List, ◌==◌, codes, Option, Some, None, if◌then◌else◌}
 
 -- the line for words that ask for nothing
 abbrev pub usage_line : List ℕ

@@ -36,7 +36,8 @@ impl Answer {
         ensures { result.now ≡ line_of self }
     {
         match self {
-            Answer::Usage => b"usage: oblivious run|compile|exec|check|audit|sample ARGUMENT [OPTIONS]\n",
+            Answer::Usage =>
+                b"usage: oblivious run|compile|exec|check|audit|sample ARGUMENT [OPTIONS]\n",
             Answer::FileFault => b"oblivious: FileFault\n",
             Answer::FileLong => b"oblivious: FileLong\n",
             Answer::NotYet => b"oblivious: NotYet\n",

@@ -12,6 +12,5 @@ mod job;
 mod program;
 mod source;
 mod status;
-
 #[cfg(test)]
 mod tests;

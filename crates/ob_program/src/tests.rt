@@ -56,7 +56,14 @@ fn run(alloc: Global, line: &str, source: &[u8], devices: &Devices) -> Result<Ra
     let mut input = MemSource::new(alloc, b"", &[0], 1)?;
     let mut out = MemSink::new(alloc, ROOM, devices.outs, devices.most)?;
     let mut err = MemSink::new(alloc, ROOM, devices.errs, devices.most)?;
-    let status = top(alloc, words(alloc, line)?, &mut folder, &mut input, &mut out, &mut err);
+    let status = top(
+        alloc,
+        words(alloc, line)?,
+        &mut folder,
+        &mut input,
+        &mut out,
+        &mut err,
+    );
     Ok(Ran {
         status: status.code(),
         out: text(alloc, out.taken())?,
@@ -70,11 +77,41 @@ const USAGE: &str = "usage: oblivious run|compile|exec|check|audit|sample ARGUME
 fn words_and_sources(rt: HostRuntime) -> Result<(), Fail> {
     let rows: [(&str, &[u8], &str, &str, u8); 14] = [
         ("run hello.c", HELLO, "Hi", "", 3),
-        ("run hello.c", b"int main(void){putchar(72);putchar(105);return 3;}\n", "", "oblivious: NotYet\n", 145),
-        ("run hello.c", b"int main(void){putchar(2147483647+2147483647+67);return 0;}", "A", "", 0),
-        ("run hello.c", b"int main(void){return 2147483647+1;}", "", "", 0),
-        ("run hello.c", b"int main(void){return 2147483647+2;}", "", "", 1),
-        ("run hello.c", b"int main(void){return 2147483648;}", "", "oblivious: NotYet\n", 145),
+        (
+            "run hello.c",
+            b"int main(void){putchar(72);putchar(105);return 3;}\n",
+            "",
+            "oblivious: NotYet\n",
+            145,
+        ),
+        (
+            "run hello.c",
+            b"int main(void){putchar(2147483647+2147483647+67);return 0;}",
+            "A",
+            "",
+            0,
+        ),
+        (
+            "run hello.c",
+            b"int main(void){return 2147483647+1;}",
+            "",
+            "",
+            0,
+        ),
+        (
+            "run hello.c",
+            b"int main(void){return 2147483647+2;}",
+            "",
+            "",
+            1,
+        ),
+        (
+            "run hello.c",
+            b"int main(void){return 2147483648;}",
+            "",
+            "oblivious: NotYet\n",
+            145,
+        ),
         ("run hello.c", b"", "", "oblivious: NotYet\n", 145),
         ("run", HELLO, "", USAGE, 128),
         ("run hello.c --steps 5 --steps 6", HELLO, "", USAGE, 128),
@@ -112,12 +149,18 @@ fn devices_that_fail(rt: HostRuntime) -> Result<(), Fail> {
     let mut devices = sound();
     devices.loads = &[0];
     let load = run(alloc, "run hello.c", HELLO, &devices)?;
-    assert_eq!(rt; (load.status, load.err.as_str()), (129, "oblivious: FileFault\n"));
+    assert_eq!(rt;
+        (load.status, load.err.as_str()),
+        (129, "oblivious: FileFault\n")
+    );
 
     let mut devices = sound();
     devices.outs = &[0];
     let first = run(alloc, "run hello.c", HELLO, &devices)?;
-    assert_eq!(rt; (first.status, first.out.as_str(), first.err.as_str()), (143, "", ""));
+    assert_eq!(rt;
+        (first.status, first.out.as_str(), first.err.as_str()),
+        (143, "", "")
+    );
 
     let mut devices = sound();
     devices.errs = &[0];

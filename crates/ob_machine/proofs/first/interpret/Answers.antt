@@ -1,9 +1,8 @@
-use Rattle.std.proofs.Common.{◌≡◌, ℕ, ◌+◌, ◌<◌, suc, List, [], ◌∷◌, ◌++◌, length, get_or, drop, Option, Result, Ok, Err, w64, to_z, of_z, refl, sym, ap, ◌∙◌, subst, arith, add-one, append_assoc, drop-cons}
-use Rattle.std.specs.Prelude.{ℤ, pos, ◌+ℤ◌, FitsSigned, OnErr}
+use Rattle.std.proofs.Common.{◌≡◌, ℕ, ◌+◌, ◌<◌, suc, List, [], ◌∷◌, ◌++◌, length, get_or, drop, Option, Result, Ok, Err, w64, to_z, refl, sym, ap, ◌∙◌, subst, add-one, append_assoc, drop-cons}
+use Rattle.std.specs.Prelude.{ℤ, pos, OnErr}
 use Rattle.ob_base.specs.Sink.{Tally, TakesPrefix}
 use Rattle.ob_words.specs.declared.types.IntType.TheVariants.{Int}
 use Rattle.ob_words.specs.Types.{IsNumber}
-use Rattle.ob_words.specs.Conversion.{convert}
 use Rattle.ob_machine.specs.declared.first.FirstInstr.{FirstInstr}
 use Rattle.ob_machine.specs.declared.first.FirstInstr.TheVariants.{Set, Add, Put}
 use Rattle.ob_machine.specs.First.{byte_of, after_bytes, first_run}

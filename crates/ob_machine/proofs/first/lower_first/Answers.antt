@@ -2,7 +2,6 @@ use Rattle.std.proofs.Common.{◌≡◌, ◌++◌, ◌∷◌, [], ap, ◌∙◌,
 use Rattle.std.specs.Prelude.{pos}
 use Rattle.std.specs.List.{flat_map}
 use Rattle.std.proofs.lemmas.List.{take_all}
-use Rattle.ob_machine.specs.declared.first.FirstInstr.{FirstInstr}
 use Rattle.ob_machine.specs.declared.first.FirstInstr.TheVariants.{End}
 use Rattle.ob_machine.specs.First.{first_run, sum_code, print_code}
 use Rattle.ob_machine.proofs.Lowered.{run_prints}

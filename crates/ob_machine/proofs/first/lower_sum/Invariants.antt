@@ -1,5 +1,5 @@
-use Rattle.std.proofs.Common.{◌≡◌, ◌++◌, ◌∷◌, [], take, map}
-use Rattle.ob_machine.specs.declared.first.FirstInstr.TheVariants.{Set, Add}
+use Rattle.std.proofs.Common.{◌≡◌, ◌++◌, take, map}
+use Rattle.ob_machine.specs.declared.first.FirstInstr.TheVariants.{Add}
 use Rattle.ob_machine.proofs.first.lower_sum.Given as goal
 
 -- the code of the constants so far stands behind what there was

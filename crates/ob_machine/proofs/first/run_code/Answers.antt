@@ -1,4 +1,3 @@
-use Rattle.std.proofs.Common.{◌≡◌, [], ◌++◌, ap, sym, subst, ◌∙◌}
 use Rattle.std.specs.Prelude.{pos}
 use Rattle.ob_machine.specs.First.{first_run}
 use Rattle.ob_machine.specs.Output.{SentOrPending}

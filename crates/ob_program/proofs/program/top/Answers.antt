@@ -1,8 +1,6 @@
-use Rattle.std.proofs.Common.{map, ap, subst}
+use Rattle.std.proofs.Common.{map}
 use Rattle.std.specs.Prelude.{string_bytes}
 use Rattle.std.specs.Global.{Global}
-use Rattle.ob_program.specs.Answer.{JobGives, Output}
-use Rattle.ob_program.specs.Job.{job_of}
 use Rattle.ob_program.proofs.Promises.{Came, runs_promise, ran_promise, usage_only_promise, file_fault_promise, file_long_only_promise, not_yet_only_promise, write_fault_promise, no_other_promise, told_promise, out_prefix_promise, out_nothing_promise, err_prefix_promise}
 use Rattle.ob_program.proofs.program.top.Goals as goal
 use Rattle.ob_program.proofs.program.top.Given.{Over}
