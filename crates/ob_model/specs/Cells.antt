@@ -16,6 +16,11 @@ unset = bytes (replicate 8 None)
 abbrev pub zeros : {P : Type 0} → Content P
 zeros = bytes (replicate 8 (Some 0))
 
+-- a granule has eight bytes
+abbrev pub has_eight : {P : Type 0} → Content P → Bool
+has_eight (pointer p) = true
+has_eight (bytes es) = length es == 8
+
 -- the number of some bytes, the least first
 abbrev pub number_of : List ℕ → ℕ
 number_of [] = 0

@@ -6,3 +6,4 @@ pub mod Manufactured
 pub mod Bounded
 pub mod Settings
 pub mod Endings
+pub mod Laws

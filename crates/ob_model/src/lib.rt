@@ -6,6 +6,7 @@
 
 pub use accesses::{granule_of, inside, size_of_kind};
 pub use endings::Ending;
+pub use laws::{law_bounded_list, law_cells, law_first_fit};
 pub use objects::{Entry, Sort};
 pub use settings::{Mode, RunSettings};
 pub use strays::{Act, StrayEvent};
@@ -13,6 +14,7 @@ pub use values::{Cell, LoadKind, Value};
 
 mod accesses;
 mod endings;
+mod laws;
 mod objects;
 mod settings;
 mod strays;

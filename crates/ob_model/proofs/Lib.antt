@@ -1,0 +1,2 @@
+pub mod FirstFits
+pub mod BoundedLists
