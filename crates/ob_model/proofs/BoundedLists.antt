@@ -23,11 +23,11 @@ same_of object granule e h =
 
 -- an entry is not of two granules
 apart : {C : Type 0} (object other : ℕ) (granule place : ℤ) (e : Listed C) → (object ≡ other → granule ≡ place → ⊥) → is_of object granule e ≡ true → is_of other place e ≡ false
-apart object other granule place e ne yes = by_test (is_of other place e) refl
+apart object other granule place e ne named = by_test (is_of other place e) refl
   where
     by_test : (b : Bool) → is_of other place e ≡ b → is_of other place e ≡ false
     by_test true h =
-        let one = same_of object granule e yes in
+        let one = same_of object granule e named in
         let two = same_of other place e h in
         absurd (ne (sym one.0 ∙ two.0) (sym one.1 ∙ two.1))
     by_test false h = h

@@ -2,28 +2,13 @@
 -- outside it (C99 6.5.6). Memory is seen in granules of eight bytes, which are numbered by whole numbers, negative ones too.
 use Rattle.std.specs.Prelude.{ℕ, ◌+◌, ◌/◌, ◌%◌, ◌^◌, Bool, false, ◌==◌, ◌&&◌, nat_le, nat_lt, not, ℤ, pos, negsuc, ◌+ℤ◌, ◌≤ℤ◌, unsigned_abs}
 use Rattle.std.specs.Int.{int_div_euclid, int_rem_euclid}
-use Rattle.ob_words.specs.declared.types.IntType.{IntType}
-use Rattle.ob_words.specs.declared.types.IntType.TheVariants.{Char, SChar, UChar, Short, UShort, Int, UInt, Long, ULong, LLong, ULLong}
+use Rattle.ob_words.specs.Types.{width}
 use Rattle.ob_model.specs.declared.values.LoadKind.{LoadKind}
 use Rattle.ob_model.specs.declared.values.LoadKind.TheVariants.{Num, Ptr}
 
--- the bytes of an integer type
-abbrev pub bytes_of : IntType → ℕ
-bytes_of Char = 1
-bytes_of SChar = 1
-bytes_of UChar = 1
-bytes_of Short = 2
-bytes_of UShort = 2
-bytes_of Int = 4
-bytes_of UInt = 4
-bytes_of Long = 8
-bytes_of ULong = 8
-bytes_of LLong = 8
-bytes_of ULLong = 8
-
 -- the bytes that a load or store moves
 abbrev pub bytes_of_kind : LoadKind → ℕ
-bytes_of_kind (Num t) = bytes_of t
+bytes_of_kind (Num t) = width t / 8
 bytes_of_kind Ptr = 8
 
 -- the k bytes from the offset on lie in an object of this size

@@ -1,8 +1,9 @@
 -- What a granule of eight bytes holds, and what reading and writing it gives. Its cell is one pointer, or eight bytes that may
 -- each be unset; the pointers are values or machine words. Numbers are little-endian. A number read from a pointer is 0, and a
 -- pointer read from bytes is null; reading an unset byte gives the next manufactured value instead.
-use Rattle.std.specs.Prelude.{ℕ, zero, suc, ◌+◌, ◌*◌, ◌/◌, ◌%◌, Bool, true, false, ◌==◌, List, [], ◌∷◌, ◌++◌, map, take, drop, replicate, length, Option, Some, None, if◌then◌else◌}
+use Rattle.std.specs.Prelude.{ℕ, zero, suc, ◌+◌, ◌/◌, ◌%◌, Bool, true, false, ◌==◌, List, [], ◌∷◌, ◌++◌, map, take, drop, replicate, length, Option, Some, None, if◌then◌else◌}
 use Rattle.std.specs.Option.{option_map}
+use Rattle.ob_words.specs.Fields.{from_bytes}
 use Rattle.ob_model.specs.declared.values.Cell.{Cell}
 
 pub data Content (P : Type 0) : Type 0 where
@@ -21,11 +22,6 @@ abbrev pub has_eight : {P : Type 0} → Content P → Bool
 has_eight (pointer p) = true
 has_eight (bytes es) = length es == 8
 
--- the number of some bytes, the least first
-abbrev pub number_of : List ℕ → ℕ
-number_of [] = 0
-number_of (b ∷ bs) = b + 256 * number_of bs
-
 -- the bytes, where each of them is set
 abbrev pub with_byte : Option ℕ → Option (List ℕ) → Option (List ℕ)
 with_byte (Some b) (Some bs) = Some (b ∷ bs)
@@ -39,7 +35,7 @@ set_bytes (b ∷ bs) = with_byte b (set_bytes bs)
 -- the number of k bytes from a place on, or none where one of them is unset
 abbrev pub read_number : {P : Type 0} → ℕ → ℕ → Content P → Option ℕ
 read_number k place (pointer p) = Some 0
-read_number k place (bytes es) = option_map number_of (set_bytes (take k (drop place es)))
+read_number k place (bytes es) = option_map from_bytes (set_bytes (take k (drop place es)))
 
 -- the pointer, which is null in bytes, or none where one of them is unset
 abbrev pub read_pointer : {P : Type 0} → P → Content P → Option P

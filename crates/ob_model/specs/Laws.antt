@@ -1,8 +1,9 @@
 -- Laws above the definitions, in the subject's own words.
 use Rattle.std.specs.Prelude.{◌≡◌, ℕ, true, ◌+◌, ◌≤◌, ◌<◌, ℤ, List, length, Option, Some, None, MatchOption}
+use Rattle.ob_words.specs.Fields.{from_bytes}
 use Rattle.ob_model.specs.Heap.{Block, Fits, IsFirstFit, heap_place}
 use Rattle.ob_model.specs.Bounded.{Listed, listed_cell, after_store, dropped}
-use Rattle.ob_model.specs.Cells.{Content, number_of, read_number, read_pointer, written, pointer, has_eight}
+use Rattle.ob_model.specs.Cells.{Content, read_number, read_pointer, written, pointer, has_eight}
 
 -- the heap gives the least place that fits, and none only where no place fits
 abbrev pub HeapIsFirstFit : Type 0
@@ -32,7 +33,7 @@ WrittenIsRead =
     (place : ℕ) (bs : List ℕ) (c : Content ℕ) →
     has_eight c ≡ true →
     place + length bs ≤ 8 →
-    read_number (length bs) place (written place bs c) ≡ Some (number_of bs)
+    read_number (length bs) place (written place bs c) ≡ Some (from_bytes bs)
 
 -- a number written over a pointer leaves no pointer, and a pointer leaves no number
 abbrev pub KindsAreKept : Type 0
