@@ -1,5 +1,5 @@
 -- A granule that a store does not name stays listed.
-use Rattle.std.proofs.Common.{◌≡◌, ℕ, ◌==◌, ◌&&◌, Bool, true, false, not, cond, ℤ, List, [], ◌∷◌, take, Option, Some, None, arith, refl, sym, ◌∙◌, ap, slice_get, inl, inr}
+use Rattle.std.proofs.Common.{◌≡◌, ℕ, ◌==◌, ◌&&◌, Bool, true, false, not, cond, ℤ, List, [], ◌∷◌, take, Some, None, arith, refl, sym, ◌∙◌, ap, slice_get, inl, inr}
 use Rattle.std.specs.List.{find}
 use Rattle.std.specs.Option.{option_map}
 use Rattle.std.specs.Ordering.{int_eq}

@@ -1,8 +1,8 @@
 -- Bytes that were written to a granule are read back.
-use Rattle.std.proofs.Common.{◌≡◌, ℕ, ◌+◌, ◌≤◌, true, List, [], ◌∷◌, ◌++◌, length, map, take, drop, replicate, Option, Some, arith, refl, sym, ◌∙◌, ap, subst}
+use Rattle.std.proofs.Common.{◌≡◌, ◌==◌, ℕ, suc, ◌+◌, ◌≤◌, true, List, [], ◌∷◌, ◌++◌, length, map, take, drop, replicate, Option, Some, arith, refl, ◌∙◌, ap, subst}
 use Rattle.std.specs.Option.{option_map}
 use Rattle.std.proofs.lemmas.Bool.Decides.{nat_tests}
-use Rattle.std.proofs.lemmas.List.{length-take-le, take-map, drop-map, map-append, length-map}
+use Rattle.std.proofs.lemmas.List.{length-take-le, take-map, drop-map, map-append}
 use Rattle.std.proofs.Math.Seq.{take-append_seam, drop-append_seam}
 use Rattle.ob_words.specs.Fields.{from_bytes}
 use Rattle.ob_model.specs.Cells.{Content, set_bytes, put_bytes, has_eight, with_byte, read_number, read_pointer, written, pointer, bytes}
@@ -17,12 +17,16 @@ take_front n xs ys e = subst (λ k. take k (xs ++ ys) ≡ xs) e (take-append_sea
 drop_front : {A : Type 0} (n : ℕ) (xs ys : List A) → length xs ≡ n → drop n (xs ++ ys) ≡ ys
 drop_front n xs ys e = subst (λ k. drop k (xs ++ ys) ≡ ys) e (drop-append_seam xs ys)
 
+length_some : (bs : List ℕ) → length (map Some bs) ≡ length bs
+length_some [] = refl
+length_some (b ∷ bs) = ap suc (length_some bs)
+
 put_is_read : (place : ℕ) (bs : List ℕ) (es : List (Option ℕ)) → place + length bs ≤ length es → set_bytes (take (length bs) (drop place (put_bytes place bs es))) ≡ Some bs
 put_is_read place bs es fits =
     ap (λ l. set_bytes (take (length bs) l)) (drop_front place (take place es) (map Some bs ++ drop (place + length bs) es) (length-take-le place es (omega arith)))
-    ∙ (ap set_bytes (take_front (length bs) (map Some bs) (drop (place + length bs) es) (length-map Some bs)) ∙ set_bytes-map bs)
+    ∙ (ap set_bytes (take_front (length bs) (map Some bs) (drop (place + length bs) es) (length_some bs)) ∙ set_bytes-map bs)
 
-eight : (es : List (Option ℕ)) → has_eight (bytes {P = ℕ} es) ≡ true → length es ≡ 8
+eight : (es : List (Option ℕ)) → (length es == 8) ≡ true → length es ≡ 8
 eight es h = grind (arith, nat_tests)
 
 pub written_is_read : (place : ℕ) (bs : List ℕ) (c : Content ℕ) → has_eight c ≡ true → place + length bs ≤ 8 → read_number (length bs) place (written place bs c) ≡ Some (from_bytes bs)

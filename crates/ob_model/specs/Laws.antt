@@ -1,5 +1,5 @@
 -- Laws above the definitions, in the subject's own words.
-use Rattle.std.specs.Prelude.{◌≡◌, ℕ, true, ◌+◌, ◌≤◌, ◌<◌, ℤ, List, length, Option, Some, None, MatchOption}
+use Rattle.std.specs.Prelude.{◌≡◌, ℕ, true, ◌+◌, ◌≤◌, ◌<◌, ℤ, List, length, Some, None, MatchOption}
 use Rattle.ob_words.specs.Fields.{from_bytes}
 use Rattle.ob_model.specs.Heap.{Block, Fits, IsFirstFit, heap_place}
 use Rattle.ob_model.specs.Bounded.{Listed, listed_cell, after_store, dropped}

@@ -18,4 +18,6 @@ mod laws;
 mod objects;
 mod settings;
 mod strays;
+#[cfg(test)]
+mod tests;
 mod values;
