@@ -12,6 +12,11 @@ pub data Finish : Type 0 where
   dead : (line : ℕ) → Finish
   dropped : (line : ℕ) → Finish
 
+-- how the input ends: it has no more bytes, or the next read fails
+pub data InputEnd : Type 0 where
+  closed : InputEnd
+  failed : InputEnd
+
 -- what a run gives: its ending, the bytes written, the stray accesses in order, and the place in the cycle of manufactured
 -- values
 pub record Outcome : Type 0 where
