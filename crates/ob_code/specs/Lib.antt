@@ -5,3 +5,5 @@ pub mod Courses
 pub mod Allocation
 pub mod Machine
 pub mod Start
+pub mod Examples
+pub mod Laws

@@ -6,8 +6,10 @@
 
 pub use image::{FunctionRow, Image, LocalRow, PointerRow, StaticRow};
 pub use instructions::Instr;
+pub use laws::{law_memory_runs, law_plain_runs};
 pub use rows::Rows;
 
 mod image;
 mod instructions;
+mod laws;
 mod rows;
