@@ -1,14 +1,15 @@
 -- Conversion gives the one congruent number of the type, and what follows for sums, products and words.
-use Rattle.std.proofs.Common.{◌≡◌, ℕ, zero, suc, ◌+◌, ◌-◌, ◌*◌, ◌/◌, ◌%◌, ◌^◌, ◌<◌, ◌≤◌, refl, sym, ap, subst, ◌∙◌, arith, lit<}
-use Rattle.std.specs.Prelude.{ℤ, pos, negsuc, ◌+ℤ◌, ◌-ℤ◌, ◌*ℤ◌, neg_ℤ, unsigned_abs, ◌≤ℤ◌, ◌<ℤ◌}
+use Rattle.std.proofs.Common.{◌≡◌, ℕ, zero, suc, ◌+◌, ◌-◌, ◌*◌, ◌/◌, ◌%◌, ◌^◌, ◌<◌, ◌≤◌, Bool, true, false, refl, sym, ap, subst, ◌∙◌, arith, lit<}
+use Rattle.std.specs.Prelude.{ℤ, pos, negsuc, ◌+ℤ◌, ◌-ℤ◌, ◌*ℤ◌, neg_ℤ, unsigned_abs, ◌≤ℤ◌, ◌<ℤ◌, nat_lt, if◌then◌else◌}
 use Rattle.std.proofs.lemmas.Int.{ints}
 use Rattle.std.proofs.lemmas.Nat.{pow_pos}
 use borrow.Author.Differences.{up, down, same_in, same_out, sum_is_lem, neg_is, product_is}
 use Rattle.ob_words.specs.declared.types.IntType.{IntType}
 use Rattle.ob_words.specs.declared.types.IntType.TheVariants.{Char, SChar, UChar, Short, UShort, Int, UInt, Long, ULong, LLong, ULLong}
 use Rattle.ob_words.specs.Words.{word, number}
-use Rattle.ob_words.specs.Types.{width, least, past, IsNumber}
-use Rattle.ob_words.specs.Conversion.{IsCongruent, residue, convert, IsConversion}
+use borrow.Author.Tests.{ltb-true, ltb-false}
+use Rattle.ob_words.specs.Types.{width, signed, least, past, IsNumber}
+use Rattle.ob_words.specs.Conversion.{IsCongruent, residue, convert, twos_complement, IsConversion}
 use Rattle.ob_words.proofs.Congruence.{congruent, factors, congruent_refl, congruent_sym, congruent_trans, congruent_sum, congruent_difference, congruent_product, congruent_coarser, residue_is, residue_below, residue_congruent, residue_same}
 
 -- some number has the type
@@ -120,3 +121,53 @@ word-pos w h = residue_is (2 ^ 64) (pos w) w h (congruent_refl (2 ^ 64) (pos w))
 
 pub word_same : (a b : ℤ) → IsCongruent (2 ^ 64) a b → word a ≡ word b
 word_same a b c = residue_same (2 ^ 64) a b (lit< tt) c
+
+-- ---- conversion by the bits of a number
+
+least_unsigned : (t : IntType) → signed t ≡ false → least t ≡ pos 0
+least_unsigned t e = ap (λ s. if s then neg_ℤ (pos (2 ^ (width t - 1))) else pos 0) e
+
+least_signed : (t : IntType) → signed t ≡ true → least t ≡ neg_ℤ (pos (2 ^ (width t - 1)))
+least_signed t e = ap (λ s. if s then neg_ℤ (pos (2 ^ (width t - 1))) else pos 0) e
+
+halves : (t : IntType) → 2 ^ width t ≡ 2 * 2 ^ (width t - 1)
+halves Char = refl
+halves SChar = refl
+halves UChar = refl
+halves Short = refl
+halves UShort = refl
+halves Int = refl
+halves UInt = refl
+halves Long = refl
+halves ULong = refl
+halves LLong = refl
+halves ULLong = refl
+
+pub convert_unsigned : (t : IntType) (n : ℤ) → signed t ≡ false → convert t n ≡ pos (residue (2 ^ width t) n)
+convert_unsigned t n e =
+    let m = 2 ^ width t in
+    let r = residue m n in
+    let zero = least_unsigned t e in
+    let below = residue_below m n (some t) in
+    let number : IsNumber t (pos r) = record { from_least = omega (arith, ints, zero); below_past = omega (arith, ints, zero) } in
+    convert_is t n (pos r) number (congruent_sym m (pos r) n (residue_congruent m n (some t)))
+
+-- by whether the highest bit is set
+by_highest : (t : IntType) (n : ℤ) (r h m : ℕ) → h ≡ 2 ^ (width t - 1) → m ≡ 2 ^ width t → r < m → least t ≡ neg_ℤ (pos h) → m ≡ 2 * h → IsCongruent m n (pos r) → (b : Bool) → nat_lt r h ≡ b → convert t n ≡ (if b then pos r else pos r -ℤ pos m)
+by_highest t n r h m half modulus below bottom whole same true low =
+    let small : r < h = omega (arith, ltb-true, low) in
+    let number : IsNumber t (pos r) = record { from_least = omega (arith, ints, bottom); below_past = omega (arith, ints, bottom, modulus) } in
+    convert_is t n (pos r) number (subst (λ k. IsCongruent k n (pos r)) modulus same)
+by_highest t n r h m half modulus below bottom whole same false high =
+    let large : h ≤ r = omega (arith, ltb-false, high) in
+    let z = pos r -ℤ pos m in
+    let number : IsNumber t z = record { from_least = omega (arith, ints, bottom); below_past = omega (arith, ints, bottom, modulus) } in
+    let also : IsCongruent m n z = congruent_trans m n (pos r) z same (congruent m (pos r) z 0 1 (omega (arith, ints))) in
+    convert_is t n z number (subst (λ k. IsCongruent k n z) modulus also)
+
+pub convert_signed : (t : IntType) (n : ℤ) → signed t ≡ true → convert t n ≡ twos_complement (width t) (residue (2 ^ width t) n)
+convert_signed t n e =
+    let m = 2 ^ width t in
+    let r = residue m n in
+    by_highest t n r (2 ^ (width t - 1)) m refl refl (residue_below m n (some t)) (least_signed t e) (halves t)
+      (congruent_sym m (pos r) n (residue_congruent m n (some t))) (nat_lt r (2 ^ (width t - 1))) refl

@@ -1,2 +1,9 @@
 pub mod Congruence
 pub mod Conversions
+pub mod Machine
+pub mod Blocks
+pub mod Ranges
+pub mod Operations
+pub mod Bytes
+pub mod Writes
+pub mod Divisions

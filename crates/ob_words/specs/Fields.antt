@@ -1,9 +1,13 @@
 -- Fields of 1, 2, 4 or 8 bytes in a list of bytes, the lowest byte first (little-endian).
-use Rattle.std.specs.Prelude.{◌≡◌, ◌⊎◌, ℕ, zero, suc, ◌+◌, ◌*◌, ◌/◌, ◌%◌, List, [], ◌∷◌, ◌++◌, take, drop, slice_range}
+use Rattle.std.specs.Prelude.{◌≡◌, ◌⊎◌, ◌<◌, ℕ, zero, suc, ◌+◌, ◌*◌, ◌/◌, ◌%◌, List, [], ◌∷◌, ◌++◌, take, drop, slice_range}
 
 -- the sizes that a field has
 abbrev pub IsFieldSize : ℕ → Type 0
 IsFieldSize size = (size ≡ 1) ⊎ ((size ≡ 2) ⊎ ((size ≡ 4) ⊎ (size ≡ 8)))
+
+-- b is a byte
+abbrev pub IsByte : ℕ → Type 0
+IsByte b = b < 256
 
 -- the number that has these digits to the base 256, the lowest first
 unfoldable pub from_bytes : List ℕ → ℕ

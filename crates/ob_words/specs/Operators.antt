@@ -1,6 +1,6 @@
 -- The arithmetic operators (C99 6.5.5 to 6.5.12) and the comparisons (6.5.8, 6.5.9) on whole
 -- numbers. Each result is computed exactly and then converted to the type, so it wraps.
-use Rattle.std.specs.Prelude.{◌≡◌, ◌≢◌, ℕ, ◌/◌, ◌^◌, Bool, true, false, not, ◌&&◌, ℤ, pos, negsuc, ◌+ℤ◌, ◌-ℤ◌, ◌*ℤ◌, ◌≤ℤ◌, ◌<ℤ◌, int_le, int_lt, int_div, int_rem, bit_and, bit_or, bit_xor, Result, Ok, Err, if◌then◌else◌}
+use Rattle.std.specs.Prelude.{◌≡◌, ◌≢◌, ℕ, ◌/◌, ◌^◌, Bool, true, false, not, ◌&&◌, ℤ, pos, negsuc, ◌+ℤ◌, ◌-ℤ◌, ◌*ℤ◌, ◌≤ℤ◌, ◌<ℤ◌, int_le, int_lt, int_div, int_rem, unsigned_abs, ◌<◌, bit_and, bit_or, bit_xor, Result, Ok, Err, if◌then◌else◌}
 use Rattle.std.specs.Ordering.{int_eq}
 use Rattle.ob_words.specs.declared.types.IntType.{IntType}
 use Rattle.ob_words.specs.declared.types.BinOp.{BinOp}
@@ -75,3 +75,10 @@ Holds Le a b = a ≤ℤ b
 Holds Ge a b = b ≤ℤ a
 Holds Eq a b = a ≡ b
 Holds Ne a b = a ≢ b
+
+-- q and r are the quotient and the remainder of a by b, truncated toward zero (6.5.5)
+pub record IsDivision (a b q r : ℤ) : Type 0 where
+  pub makes_up : a ≡ q *ℤ b +ℤ r
+  pub nearer : unsigned_abs r < unsigned_abs b
+  pub not_below : pos 0 ≤ℤ a → pos 0 ≤ℤ r
+  pub not_above : a ≤ℤ pos 0 → r ≤ℤ pos 0

@@ -10,7 +10,11 @@ pub fn get_le(bytes: &[u8], at: usize, size: usize) -> u64
 {
     match size {
         1 => bytes[at] as u64,
-        2 => u16::from_le_bytes([bytes[at], bytes[at + 1]]) as u64,
+        2 => {
+            let mut field = [0; 2];
+            field.copy_from_slice(&bytes[at..at + 2]);
+            u16::from_le_bytes(field) as u64
+        }
         4 => {
             let mut field = [0; 4];
             field.copy_from_slice(&bytes[at..at + 4]);
