@@ -1,7 +1,7 @@
 -- Frames. A frame has so many words of 8 bytes, rounded up to whole blocks of 16 bytes, and then the blocks of its local
 -- objects. Word 0 is the place that the call returns to and word 1 the base of the caller's frame; arguments come from word 2
 -- on. The first frame lies at 2 ^ 24 and each next one at the end of the last.
-use Rattle.std.specs.Prelude.{ℕ, zero, suc, ◌+◌, ◌*◌, ◌/◌, Bool, ◌&&◌, max, nat_le, nat_lt, List, [], ◌∷◌, slice_index_or}
+use Rattle.std.specs.Prelude.{ℕ, zero, suc, ◌+◌, ◌-◌, ◌*◌, ◌/◌, Bool, ◌&&◌, max, nat_le, nat_lt, List, [], ◌∷◌, length, Option, Some, None, slice_get, slice_index_or}
 use Rattle.ob_words.specs.Words.{block}
 use Rattle.ob_model.specs.declared.objects.Entry.{Entry}
 use Rattle.ob_model.specs.declared.objects.Sort.TheVariants.{Automatic}
@@ -26,10 +26,12 @@ words_end words = 16 * ((words + 1) / 2)
 abbrev pub local_end : LocalRow → ℕ
 local_end l = l.place + block l.size
 
+abbrev pub end_of : Option LocalRow → ℕ
+end_of None = 0
+end_of (Some l) = local_end l
+
 abbrev pub locals_end : List LocalRow → ℕ
-locals_end [] = 0
-locals_end (l ∷ []) = local_end l
-locals_end (l ∷ m ∷ ls) = locals_end (m ∷ ls)
+locals_end ls = end_of (slice_get ls (length ls - 1))
 
 abbrev pub frame_length : FunctionRow → ℕ
 frame_length f = max (words_end f.words) (locals_end f.locals)

@@ -7,3 +7,4 @@ pub mod Machine
 pub mod Start
 pub mod Examples
 pub mod Laws
+pub mod Rules

@@ -4,12 +4,17 @@
 //! numbers, memory rules and bytes, and on ob_base for byte lists. Takes no memory.
 #![tactic(auto)]
 
+pub use faults::{BadImage, Part};
 pub use image::{FunctionRow, Image, LocalRow, PointerRow, StaticRow};
 pub use instructions::Instr;
 pub use laws::{law_memory_runs, law_plain_runs};
 pub use rows::Rows;
+pub use verified::{Verified, verify};
 
+mod faults;
 mod image;
 mod instructions;
 mod laws;
 mod rows;
+mod rules;
+mod verified;
