@@ -1,9 +1,8 @@
 -- Congruence of whole numbers, and the least natural number that is congruent to a number.
-use Rattle.std.proofs.Common.{◌≡◌, ℕ, zero, suc, ◌+◌, ◌-◌, ◌*◌, ◌/◌, ◌%◌, ◌^◌, ◌<◌, ◌≤◌, refl, sym, ap, subst, ◌∙◌, arith, mod-lt}
-use Rattle.std.specs.Prelude.{ℤ, pos, negsuc, ◌+ℤ◌, ◌-ℤ◌, ◌*ℤ◌, neg_ℤ, unsigned_abs, ◌≤ℤ◌, ◌<ℤ◌}
-use Rattle.std.specs.Int.{int_rem_euclid}
+use Rattle.std.proofs.Common.{◌≡◌, ℕ, suc, ◌+◌, ◌-◌, ◌*◌, ◌/◌, ◌%◌, ◌<◌, refl, ap, subst, ◌∙◌, arith, mod-lt}
+use Rattle.std.specs.Prelude.{ℤ, pos, negsuc, ◌+ℤ◌, ◌-ℤ◌, ◌*ℤ◌, neg_ℤ, unsigned_abs}
 use Rattle.std.proofs.lemmas.Int.{ints, int_rem_euclid_is}
-use Rattle.std.proofs.lemmas.Nat.{mod-mul-add, div-add-mod', mod_below}
+use Rattle.std.proofs.lemmas.Nat.{mod-mul-add, div-add-mod'}
 use borrow.Author.Differences.{up, down, same_in, same_out, sum_is_lem, neg_is, product_is}
 use Rattle.ob_words.specs.Conversion.{IsCongruent, residue}
 
@@ -57,7 +56,7 @@ times_comm a b = same_in (a *ℤ b) (b *ℤ a) (omega (arith, product_is))
 pub congruent_product : (m : ℕ) (a b c d : ℤ) → IsCongruent m a b → IsCongruent m c d → IsCongruent m (a *ℤ c) (b *ℤ d)
 congruent_product m a b c d h i =
     let second : IsCongruent m (b *ℤ c) (b *ℤ d) =
-      subst (λ z. IsCongruent m z (b *ℤ d)) (times_comm c b) (subst (λ z. IsCongruent m (c *ℤ b) z) (times_comm d b) (congruent_times m c d b i)) in
+    subst (λ z. IsCongruent m z (b *ℤ d)) (times_comm c b) (subst (λ z. IsCongruent m (c *ℤ b) z) (times_comm d b) (congruent_times m c d b i)) in
     congruent_trans m (a *ℤ c) (b *ℤ c) (b *ℤ d) (congruent_times m a b c h) second
 
 -- what is congruent modulo a multiple is congruent

@@ -1,14 +1,14 @@
 -- Conversion gives the one congruent number of the type, and what follows for sums, products and words.
-use Rattle.std.proofs.Common.{◌≡◌, ℕ, zero, suc, ◌+◌, ◌-◌, ◌*◌, ◌/◌, ◌%◌, ◌^◌, ◌<◌, ◌≤◌, Bool, true, false, refl, sym, ap, subst, ◌∙◌, arith, lit<}
-use Rattle.std.specs.Prelude.{ℤ, pos, negsuc, ◌+ℤ◌, ◌-ℤ◌, ◌*ℤ◌, neg_ℤ, unsigned_abs, ◌≤ℤ◌, ◌<ℤ◌, nat_lt, if◌then◌else◌}
+use Rattle.std.proofs.Common.{◌≡◌, ℕ, ◌-◌, ◌*◌, ◌^◌, ◌<◌, ◌≤◌, Bool, true, false, refl, sym, ap, subst, ◌∙◌, arith, lit<}
+use Rattle.std.specs.Prelude.{ℤ, pos, ◌+ℤ◌, ◌-ℤ◌, ◌*ℤ◌, neg_ℤ, unsigned_abs, nat_lt, if◌then◌else◌}
 use Rattle.std.proofs.lemmas.Int.{ints}
 use Rattle.std.proofs.lemmas.Nat.{pow_pos}
-use borrow.Author.Differences.{up, down, same_in, same_out, sum_is_lem, neg_is, product_is}
+use borrow.Author.Differences.{same_out, sum_is_lem, neg_is}
 use Rattle.ob_words.specs.declared.types.IntType.{IntType}
 use Rattle.ob_words.specs.declared.types.IntType.TheVariants.{Char, SChar, UChar, Short, UShort, Int, UInt, Long, ULong, LLong, ULLong}
 use Rattle.ob_words.specs.Words.{word, number}
 use borrow.Author.Tests.{ltb-true, ltb-false}
-use Rattle.ob_words.specs.Types.{width, signed, least, past, IsNumber}
+use Rattle.ob_words.specs.Types.{width, signed, least, IsNumber}
 use Rattle.ob_words.specs.Conversion.{IsCongruent, residue, convert, twos_complement, IsConversion}
 use Rattle.ob_words.proofs.Congruence.{congruent, factors, congruent_refl, congruent_sym, congruent_trans, congruent_sum, congruent_difference, congruent_product, congruent_coarser, residue_is, residue_below, residue_congruent, residue_same}
 
@@ -170,4 +170,4 @@ convert_signed t n e =
     let m = 2 ^ width t in
     let r = residue m n in
     by_highest t n r (2 ^ (width t - 1)) m refl refl (residue_below m n (some t)) (least_signed t e) (halves t)
-      (congruent_sym m (pos r) n (residue_congruent m n (some t))) (nat_lt r (2 ^ (width t - 1))) refl
+    (congruent_sym m (pos r) n (residue_congruent m n (some t))) (nat_lt r (2 ^ (width t - 1))) refl

@@ -1,16 +1,15 @@
 -- What the code computes in 128 bits, as whole numbers.
-use Rattle.std.proofs.Common.{◌≡◌, ℕ, zero, suc, ◌+◌, ◌-◌, ◌*◌, ◌/◌, ◌%◌, ◌^◌, ◌<◌, ◌≤◌, Bool, true, false, refl, sym, ap, subst, ◌∙◌, arith, bit_and, to_z, of_z, mod-lt, lit<, lit≤, FitsSigned}
-use Rattle.std.specs.Prelude.{ℤ, pos, negsuc, ◌+ℤ◌, ◌-ℤ◌, ◌*ℤ◌, unsigned_abs, nat_lt, if◌then◌else◌}
+use Rattle.std.proofs.Common.{◌≡◌, ℕ, ◌+◌, ◌-◌, ◌*◌, ◌/◌, ◌%◌, ◌^◌, ◌<◌, ◌≤◌, false, sym, ap, ◌∙◌, arith, bit_and, to_z, of_z, mod-lt, lit≤, FitsSigned}
+use Rattle.std.specs.Prelude.{ℤ, pos, negsuc, ◌-ℤ◌, unsigned_abs, nat_lt, if◌then◌else◌}
 use Rattle.std.specs.Int.{w128}
 use Rattle.std.proofs.lemmas.Int.{ints, to_z_pos, to_z-of_z}
 use lib.Signed.{lt_z}
 use Rattle.std.proofs.lemmas.Nat.{pow_pos, pow-add, and_mask, and_le_r, div-add-mod', one_shl, pow_below}
-use borrow.Author.Differences.{up, down, same_in, same_out, sum_is_lem, neg_is, product_is}
 use Rattle.ob_words.specs.declared.types.IntType.{IntType}
 use Rattle.ob_words.specs.declared.types.IntType.TheVariants.{Char, SChar, UChar, Short, UShort, Int, UInt, Long, ULong, LLong, ULLong}
 use Rattle.ob_words.specs.Types.{width}
 use Rattle.ob_words.specs.Operators.{places}
-use Rattle.ob_words.specs.Conversion.{IsCongruent, residue, convert, twos_complement}
+use Rattle.ob_words.specs.Conversion.{IsCongruent, residue, twos_complement}
 use Rattle.ob_words.proofs.Congruence.{congruent, residue_is}
 
 -- the bits of a number below 2 ^ 127 in two's complement have its residue

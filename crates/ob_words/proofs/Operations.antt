@@ -1,17 +1,17 @@
 -- What the code computes for each operator is the conversion of the exact result.
-use Rattle.std.proofs.Common.{◌≡◌, ℕ, zero, suc, ◌+◌, ◌-◌, ◌*◌, ◌/◌, ◌%◌, ◌^◌, ◌<◌, ◌≤◌, Bool, true, false, refl, sym, ap, subst, ◌∙◌, arith, mod-lt, lt_of_le_of_lt, Ok, Err, Result, to_z, of_z, FitsSigned, bit_and, bit_or, div-add-mod'}
-use Rattle.std.specs.Prelude.{ℤ, pos, negsuc, ◌+ℤ◌, ◌-ℤ◌, ◌*ℤ◌, int_div, int_rem, bit_xor, ◌&&◌, if◌then◌else◌}
+use Rattle.std.proofs.Common.{◌≡◌, ℕ, ◌*◌, ◌/◌, ◌%◌, ◌^◌, ◌<◌, Bool, true, false, refl, sym, ap, subst, ◌∙◌, arith, mod-lt, lt_of_le_of_lt, Ok, Err, Result, to_z, of_z, FitsSigned, bit_and, bit_or, div-add-mod'}
+use Rattle.std.specs.Prelude.{ℤ, pos, negsuc, ◌+ℤ◌, ◌-ℤ◌, ◌*ℤ◌, int_div, bit_xor, ◌&&◌, if◌then◌else◌}
 use Rattle.std.specs.Ordering.{int_eq}
 use Rattle.std.specs.Int.{w128}
-use Rattle.std.proofs.lemmas.Int.{ints, to_z-of_z, quot_is, rem_is}
-use Rattle.std.proofs.lemmas.Nat.{and_mod, or_mod, xor_mod, pow_pos}
+use Rattle.std.proofs.lemmas.Int.{to_z-of_z, quot_is}
+use Rattle.std.proofs.lemmas.Nat.{and_mod, or_mod, xor_mod}
 use Rattle.std.proofs.lemmas.Bool.Decides.{Decides-int_eq}
 use lib.Signed.{shr_z, mag_shr}
 use Rattle.ob_words.specs.declared.types.IntType.{IntType}
 use Rattle.ob_words.specs.declared.types.BinOp.{BinOp}
 use Rattle.ob_words.specs.declared.types.DivideByZero.{DivideByZero}
 use Rattle.ob_words.specs.Types.{width, IsNumber}
-use Rattle.ob_words.specs.Conversion.{IsCongruent, residue, convert}
+use Rattle.ob_words.specs.Conversion.{IsCongruent, convert}
 use Rattle.ob_words.specs.Words.{word, number}
 use Rattle.ob_words.specs.Operators.{bits_of, places, floor_div, exact, divides, divide_by_zero, binary}
 use Rattle.ob_words.proofs.Congruence.{congruent, congruent_refl, congruent_sym, congruent_trans, congruent_product, residue_is, residue_below}

@@ -1,9 +1,9 @@
 -- The ranges of the types, by their bounds.
-use Rattle.std.proofs.Common.{◌≡◌, ℕ, suc, ◌+◌, ◌-◌, ◌*◌, ◌/◌, ◌^◌, ◌<◌, ◌≤◌, Bool, true, false, refl, sym, ap, ◌∙◌, arith, lit<, lit≤, FitsSigned, div-le_self}
+use Rattle.std.proofs.Common.{ℕ, suc, ◌/◌, ◌^◌, ◌<◌, ◌≤◌, arith, lit<, lit≤, FitsSigned, div-le_self}
 use Rattle.std.specs.Prelude.{ℤ, pos, negsuc, neg_ℤ, ◌+ℤ◌, ◌-ℤ◌, ◌≤ℤ◌, ◌<ℤ◌, unsigned_abs, int_div}
 use Rattle.std.specs.Int.{w128}
 use Rattle.std.proofs.lemmas.Int.{ints, fits_signed_from_abs}
-use borrow.Author.Differences.{up, down, abs_is}
+use borrow.Author.Differences.{abs_is}
 use Rattle.ob_words.specs.declared.types.IntType.{IntType}
 use Rattle.ob_words.specs.declared.types.IntType.TheVariants.{Char, SChar, UChar, Short, UShort, Int, UInt, Long, ULong, LLong, ULLong}
 use Rattle.ob_words.specs.Types.{width, least, past, IsNumber}

@@ -14,11 +14,14 @@ pub use ranks::{common, promote, signed, width};
 pub use room::block;
 pub use types::{BinOp, DivideByZero, IntType, Relation};
 
-pub mod laws;
-
 mod conversion;
 mod fields;
+pub mod laws;
 mod operators;
 mod ranks;
 mod room;
+#[cfg(test)]
+mod tables;
+#[cfg(test)]
+mod tests;
 mod types;

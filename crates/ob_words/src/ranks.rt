@@ -90,12 +90,6 @@ pub fn common(a: IntType, b: IntType) -> IntType
     match (signed(x), signed(y)) {
         (true, false) => mixed(y, x),
         (false, true) => mixed(x, y),
-        _ => {
-            if rank(y) <= rank(x) {
-                x
-            } else {
-                y
-            }
-        }
+        _ => { if rank(y) <= rank(x) { x } else { y } }
     }
 }

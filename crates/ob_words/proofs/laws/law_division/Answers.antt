@@ -3,4 +3,3 @@ use Rattle.ob_words.proofs.laws.law_division.Goals as goal
 
 pub returns : goal.returns
 returns c = division
-

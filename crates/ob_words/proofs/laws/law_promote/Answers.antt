@@ -6,4 +6,3 @@ returns-clause-narrow c = promote_narrow
 
 pub returns-clause-wide : goal.returns-clause-wide
 returns-clause-wide c = promote_wide
-

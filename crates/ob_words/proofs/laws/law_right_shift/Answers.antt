@@ -6,4 +6,3 @@ returns-clause-low c = floor_low
 
 pub returns-clause-high : goal.returns-clause-high
 returns-clause-high c = floor_high
-

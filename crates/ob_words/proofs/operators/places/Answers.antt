@@ -1,4 +1,4 @@
-use Rattle.std.proofs.Common.{◌≡◌, ◌-◌, ap, ◌∙◌, bit_and, to_z, of_z}
+use Rattle.std.proofs.Common.{ap, ◌∙◌, bit_and, to_z, of_z}
 use Rattle.std.specs.Prelude.{pos, ◌-ℤ◌, unsigned_abs}
 use Rattle.std.specs.Int.{w128}
 use Rattle.ob_words.proofs.Machine.{places_is}
