@@ -7,3 +7,6 @@
 pub use flat::Flat;
 
 mod flat;
+pub mod laws;
+#[cfg(test)]
+mod tests;
