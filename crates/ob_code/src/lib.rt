@@ -17,4 +17,6 @@ mod instructions;
 mod laws;
 mod rows;
 mod rules;
+#[cfg(test)]
+mod tests;
 mod verified;
