@@ -1,8 +1,7 @@
 -- Each place of the code belongs to one function.
-use Rattle.std.proofs.Common.{◌≡◌, ℕ, zero, suc, ◌+◌, ◌-◌, ◌<◌, ◌≤◌, ◌⊎◌, length, get_or, Option, Some, None, slice_get, arith, refl, sym, ◌∙◌, ap, subst, inl, inr}
+use Rattle.std.proofs.Common.{◌≡◌, ℕ, zero, suc, ◌+◌, ◌-◌, ◌<◌, ◌≤◌, ◌⊎◌, length, arith, ap, subst, inl, inr}
 use Rattle.std.proofs.lemmas.Option.{slice_get_cases, slice_get-get_or}
 use Rattle.ob_code.specs.declared.image.Image.{Image}
-use Rattle.ob_code.specs.declared.image.FunctionRow.{FunctionRow}
 use Rattle.ob_code.specs.Frames.{function_at, no_function}
 use Rattle.ob_code.specs.Rules.{AreFunctionsSound, IsCodeOf, IsCodeSound, IsInstructionSound, code_end, entry_or}
 

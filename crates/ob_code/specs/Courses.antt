@@ -1,7 +1,7 @@
 -- Checked loads and stores. An access goes its course by what its pointer names, its displacement and its size: too far, at an
 -- address of the object, or astray. A stray access is told first. Then it vanishes in oblivious mode, through null, and where
 -- it is ill aligned; in boundless mode it goes on at a granule of the object's own, or at one outside of the object.
-use Rattle.std.specs.Prelude.{ℕ, ◌+◌, ◌-◌, ◌/◌, ◌%◌, Bool, true, false, ℤ, pos, ◌+ℤ◌, unsigned_abs, List, ◌∷◌, [], ◌++◌, Option, Some, None, unwrap_or, if◌then◌else◌}
+use Rattle.std.specs.Prelude.{ℕ, ◌+◌, ◌-◌, ◌/◌, ◌%◌, Bool, true, false, ℤ, ◌+ℤ◌, unsigned_abs, Option, Some, None, unwrap_or, if◌then◌else◌}
 use Rattle.std.specs.Option.{option_map}
 use Rattle.ob_words.specs.declared.types.IntType.{IntType}
 use Rattle.ob_words.specs.Fields.{low_bytes}
@@ -10,14 +10,13 @@ use Rattle.ob_words.specs.Words.{word, number}
 use Rattle.ob_model.specs.declared.objects.Entry.{Entry}
 use Rattle.ob_model.specs.declared.settings.Mode.{Mode}
 use Rattle.ob_model.specs.declared.settings.Mode.TheVariants.{Oblivious, Boundless}
-use Rattle.ob_model.specs.declared.settings.RunSettings.{RunSettings}
 use Rattle.ob_model.specs.declared.strays.Act.{Act}
 use Rattle.ob_model.specs.declared.strays.StrayEvent.{StrayEvent}
 use Rattle.ob_model.specs.declared.values.LoadKind.{LoadKind}
 use Rattle.ob_model.specs.declared.values.LoadKind.TheVariants.{Num, Ptr}
-use Rattle.ob_model.specs.Accesses.{bytes_of_kind, is_aligned, is_far, is_inside, is_own, granule, place_in_granule}
-use Rattle.ob_model.specs.Bounded.{Listed, listed_cell, after_load, after_store}
-use Rattle.ob_model.specs.Cells.{Content, bytes, pointer, unset, read_number, read_pointer, written}
+use Rattle.ob_model.specs.Accesses.{is_aligned, is_far, is_inside, is_own, granule, place_in_granule}
+use Rattle.ob_model.specs.Bounded.{listed_cell, after_load, after_store}
+use Rattle.ob_model.specs.Cells.{Content, pointer, unset, read_number, read_pointer, written}
 use Rattle.ob_flat.specs.Memory.{Memory, field, with_field, has_mark, with_mark, with_zeros}
 use Rattle.ob_code.specs.Pointers.{Target, nothing, into, resolve}
 use Rattle.ob_code.specs.State.{Space}

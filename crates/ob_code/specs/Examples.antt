@@ -1,12 +1,10 @@
 -- Small images, whose runs the laws tell.
-use Rattle.std.specs.Prelude.{ℕ, ℤ, pos, List, [], ◌∷◌}
+use Rattle.std.specs.Prelude.{ℕ, pos, List, [], ◌∷◌}
 use Rattle.ob_words.specs.declared.types.BinOp.TheVariants.{Shr}
-use Rattle.ob_words.specs.declared.types.IntType.TheVariants.{Char as char_type, Int as int_type, ULong as unsigned_long}
+use Rattle.ob_words.specs.declared.types.IntType.TheVariants.{Char as char_type, ULong as unsigned_long}
 use Rattle.ob_model.specs.declared.settings.Mode.{Mode}
-use Rattle.ob_model.specs.declared.settings.Mode.TheVariants.{Oblivious, Boundless}
 use Rattle.ob_model.specs.declared.settings.RunSettings.{RunSettings}
 use Rattle.ob_model.specs.declared.values.LoadKind.TheVariants.{Num}
-use Rattle.ob_code.specs.declared.image.FunctionRow.{FunctionRow}
 use Rattle.ob_code.specs.declared.image.Image.{Image}
 use Rattle.ob_code.specs.declared.image.StaticRow.{StaticRow}
 use Rattle.ob_code.specs.declared.instructions.Instr.{Instr}

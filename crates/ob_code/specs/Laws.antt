@@ -1,12 +1,12 @@
 -- Runs of small images on a stack of 64 bytes, with the cycle 0, 1, 2 of manufactured values, no input and ten steps.
-use Rattle.std.specs.Prelude.{◌≡◌, ℕ, ℤ, pos, List, [], ◌∷◌}
+use Rattle.std.specs.Prelude.{◌≡◌, ℕ, pos, List, [], ◌∷◌}
 use Rattle.ob_model.specs.declared.endings.Ending.{Ending}
 use Rattle.ob_model.specs.declared.endings.Ending.TheVariants.{Ended, Spent, Descriptors}
 use Rattle.ob_model.specs.declared.settings.Mode.TheVariants.{Oblivious, Boundless}
 use Rattle.ob_model.specs.declared.settings.RunSettings.{RunSettings}
 use Rattle.ob_model.specs.declared.strays.Act.TheVariants as act
 use Rattle.ob_model.specs.declared.strays.StrayEvent.{StrayEvent}
-use Rattle.ob_model.specs.Endings.{Outcome, closed, plain}
+use Rattle.ob_model.specs.Endings.{closed, plain}
 use Rattle.ob_code.specs.declared.image.Image.{Image}
 use Rattle.ob_code.specs.Examples.{settings_of, hello, return_place, endless, far_pointer, first_block, reused_block, past_the_end}
 use Rattle.ob_code.specs.Start.{laid_out, run_from, outcome_of}

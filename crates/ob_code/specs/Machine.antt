@@ -2,23 +2,20 @@
 -- Where an instruction may end the run for want of a step and in another way, the step is tested first.
 use Rattle.std.specs.Prelude.{ℕ, zero, suc, ◌+◌, ◌-◌, ◌*◌, ◌%◌, ◌^◌, Bool, true, false, ◌==◌, ℤ, pos, ◌+ℤ◌, ◌*ℤ◌, unsigned_abs, List, [], ◌∷◌, ◌++◌, take, Option, Some, None, Result, Ok, Err, slice_get, slice_index_or, if◌then◌else◌}
 use Rattle.ob_words.specs.declared.types.BinOp.{BinOp}
-use Rattle.ob_words.specs.declared.types.BinOp.TheVariants.{Add, Sub, Mul, Div, Rem, And, Or, Xor, Shl, Shr}
+use Rattle.ob_words.specs.declared.types.BinOp.TheVariants.{Shl, Shr}
 use Rattle.ob_words.specs.declared.types.DivideByZero.{DivideByZero}
 use Rattle.ob_words.specs.declared.types.IntType.{IntType}
 use Rattle.ob_words.specs.declared.types.IntType.TheVariants.{Int, Long}
-use Rattle.ob_words.specs.declared.types.Relation.{Relation}
 use Rattle.ob_words.specs.Operators.{binary, compare}
 use Rattle.ob_words.specs.Words.{word, number, block}
 use Rattle.ob_model.specs.declared.endings.Ending.TheVariants.{Ended, Steps, Divide, Stack, Descriptors, Far, Spent, ReadFault}
 use Rattle.ob_model.specs.declared.strays.StrayEvent.{StrayEvent}
-use Rattle.ob_model.specs.declared.strays.Act.{Act}
 use Rattle.ob_model.specs.declared.strays.Act.TheVariants as act
 use Rattle.ob_model.specs.declared.values.LoadKind.{LoadKind}
 use Rattle.ob_model.specs.Accesses.{bytes_of_kind, is_far, own_granules}
 use Rattle.ob_model.specs.Endings.{InputEnd, closed, failed}
 use Rattle.ob_model.specs.Manufactured.{manufactured, place_after}
 use Rattle.ob_flat.specs.Memory.{with_zeros}
-use Rattle.ob_code.specs.declared.image.FunctionRow.{FunctionRow}
 use Rattle.ob_code.specs.declared.image.Image.{Image}
 use Rattle.ob_code.specs.declared.image.LocalRow.{LocalRow}
 use Rattle.ob_code.specs.declared.image.StaticRow.{StaticRow}

@@ -1,5 +1,5 @@
 -- The state of the flat machine, on lists. It has no tree, no list of free slots and no arena: the program may keep them.
-use Rattle.std.specs.Prelude.{ℕ, ◌+◌, ◌==◌, not, ℤ, List, Option, Some, None, map, if◌then◌else◌, Bool}
+use Rattle.std.specs.Prelude.{ℕ, not, ℤ, List, Option, Some, None, map, if◌then◌else◌, Bool}
 use Rattle.std.specs.List.{filter}
 use Rattle.ob_model.specs.declared.endings.Ending.{Ending}
 use Rattle.ob_model.specs.declared.objects.Entry.{Entry}

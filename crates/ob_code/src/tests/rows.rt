@@ -1,31 +1,34 @@
 use crate::tests::{at, fault, function, image, one_function};
-use crate::{FunctionRow, Instr, LocalRow, Part, PointerRow, Rows, StaticRow};
+use crate::{BadImage, FunctionRow, Instr, LocalRow, Part, PointerRow, Rows, StaticRow};
 use ob_base::Text;
 use std::test::Fail;
 
-// Each field of a function row at its edges, in an image of one function.
+// Each field of a function row at its edges, in an image of one function: entry, parameters, words,
+// variables, allowance, and the part that is at fault in its row 0.
+const FRAMES: [(u32, u32, u32, u32, u64, Option<Part>); 14] = [
+    (0, 0, 4, 0, 32, None),
+    (1, 0, 4, 0, 32, Some(Part::Function)),
+    (0, 0, 2, 0, 16, None),
+    (0, 0, 1, 0, 16, Some(Part::Function)),
+    (0, 0, 4_194_304, 0, 33_554_432, None),
+    (0, 0, 4_194_305, 0, 33_554_448, Some(Part::Function)),
+    (0, 0, 4, 524_288, 32, None),
+    (0, 0, 4, 524_289, 32, Some(Part::Function)),
+    (0, 0, 4, 0, 0x4000_0000_0000_0000, None),
+    (0, 0, 4, 0, 0x4000_0000_0000_0010, Some(Part::Function)),
+    (0, 0, 4, 0, 40, Some(Part::Function)),
+    (0, 0, 5, 0, 32, Some(Part::Function)),
+    (0, 1, 3, 0, 32, Some(Part::Main)),
+    (0, 2, 3, 0, 32, Some(Part::Function)),
+];
+
 #[test]
 fn frames(rt: HostRuntime) -> Result<(), Fail> {
-    let cases = [
-        (0, 0, 4, 0, 32, None),
-        (1, 0, 4, 0, 32, at(Part::Function, 0)),
-        (0, 0, 2, 0, 16, None),
-        (0, 0, 1, 0, 16, at(Part::Function, 0)),
-        (0, 0, 4_194_304, 0, 33_554_432, None),
-        (0, 0, 4_194_305, 0, 33_554_448, at(Part::Function, 0)),
-        (0, 0, 4, 524_288, 32, None),
-        (0, 0, 4, 524_289, 32, at(Part::Function, 0)),
-        (0, 0, 4, 0, 0x4000_0000_0000_0000, None),
-        (0, 0, 4, 0, 0x4000_0000_0000_0010, at(Part::Function, 0)),
-        (0, 0, 4, 0, 40, at(Part::Function, 0)),
-        (0, 0, 5, 0, 32, at(Part::Function, 0)),
-        (0, 1, 3, 0, 32, at(Part::Main, 0)),
-        (0, 2, 3, 0, 32, at(Part::Function, 0)),
-    ];
-    for (entry, params, words, vars, allowance, answer) in cases {
+    for (entry, params, words, vars, allowance, part) in FRAMES {
         let mut functions = Vec::new(rt.alloc());
         functions.push(function(rt.alloc(), entry, params, words, vars, allowance))?;
         let made = image(rt.alloc(), functions, 0, &[Instr::Return { b: 0 }])?;
+        let answer = part.map(|part| BadImage { part, at: 0 });
         assert_eq!(rt;
             fault(made),
             answer,
@@ -35,43 +38,47 @@ fn frames(rt: HostRuntime) -> Result<(), Fail> {
     Ok(())
 }
 
+const END: Instr = Instr::Return { b: 2 };
+
+const CALL: Instr = Instr::Call { a: 2, b: 3, imm: 2 };
+
 // Entries begin at 0, increase and lie in the code; main exists; jumps stay in their function, and a call
 // has its parameters.
+const ORDERS: [([u32; 3], u32, [Instr; 3], Option<(Part, u64)>); 14] = [
+    ([0, 1, 2], 0, [END, END, END], None),
+    ([0, 1, 1], 0, [END, END, END], Some((Part::Function, 2))),
+    ([0, 2, 1], 0, [END, END, END], Some((Part::Function, 2))),
+    ([0, 1, 3], 0, [END, END, END], Some((Part::Function, 2))),
+    ([0, 3, 2], 0, [END, END, END], Some((Part::Function, 1))),
+    ([1, 2, 3], 0, [END, END, END], Some((Part::Function, 0))),
+    ([0, 1, 2], 1, [END, END, END], None),
+    ([0, 1, 2], 2, [END, END, END], Some((Part::Main, 0))),
+    ([0, 1, 2], 3, [END, END, END], Some((Part::Main, 0))),
+    ([0, 1, 2], 0, [END, Instr::Jump { imm: 1 }, END], None),
+    (
+        [0, 1, 2],
+        0,
+        [END, Instr::Jump { imm: 0 }, END],
+        Some((Part::Code, 1)),
+    ),
+    (
+        [0, 1, 2],
+        0,
+        [END, Instr::Jump { imm: 2 }, END],
+        Some((Part::Code, 1)),
+    ),
+    ([0, 1, 2], 0, [END, Instr::Tick, END], Some((Part::Code, 1))),
+    ([0, 1, 2], 0, [CALL, END, END], Some((Part::Code, 0))),
+];
+
 #[test]
 fn functions_in_order(rt: HostRuntime) -> Result<(), Fail> {
-    let end = Instr::Return { b: 2 };
-    let call = Instr::Call { a: 2, b: 3, imm: 2 };
-    let cases = [
-        ([0, 1, 2], 0, [end, end, end], None),
-        ([0, 1, 1], 0, [end, end, end], at(Part::Function, 2)),
-        ([0, 2, 1], 0, [end, end, end], at(Part::Function, 2)),
-        ([0, 1, 3], 0, [end, end, end], at(Part::Function, 2)),
-        ([0, 3, 2], 0, [end, end, end], at(Part::Function, 1)),
-        ([1, 2, 3], 0, [end, end, end], at(Part::Function, 0)),
-        ([0, 1, 2], 1, [end, end, end], None),
-        ([0, 1, 2], 2, [end, end, end], at(Part::Main, 0)),
-        ([0, 1, 2], 3, [end, end, end], at(Part::Main, 0)),
-        ([0, 1, 2], 0, [end, Instr::Jump { imm: 1 }, end], None),
-        (
-            [0, 1, 2],
-            0,
-            [end, Instr::Jump { imm: 0 }, end],
-            at(Part::Code, 1),
-        ),
-        (
-            [0, 1, 2],
-            0,
-            [end, Instr::Jump { imm: 2 }, end],
-            at(Part::Code, 1),
-        ),
-        ([0, 1, 2], 0, [end, Instr::Tick, end], at(Part::Code, 1)),
-        ([0, 1, 2], 0, [call, end, end], at(Part::Code, 0)),
-    ];
-    for (entries, main, code, answer) in cases {
+    for (entries, main, code, row) in ORDERS {
         let mut functions = Vec::new(rt.alloc());
         functions.push(function(rt.alloc(), entries[0], 0, 4, 0, 32))?;
         functions.push(function(rt.alloc(), entries[1], 0, 4, 0, 32))?;
         functions.push(function(rt.alloc(), entries[2], 1, 4, 0, 32))?;
+        let answer = row.map(|(part, at)| BadImage { part, at });
         assert_eq!(rt;
             fault(image(rt.alloc(), functions, main, &code)?),
             answer,

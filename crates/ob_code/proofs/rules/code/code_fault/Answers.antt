@@ -1,4 +1,4 @@
-use Rattle.std.proofs.Common.{◌≡◌, Bool, true, false, ap, arith, below_more, length, refl}
+use Rattle.std.proofs.Common.{◌≡◌, true, false, ap, arith, below_more, length, refl}
 use Rattle.ob_code.specs.Rules.{broken}
 use Rattle.ob_code.proofs.CodeRanges.{sound_at}
 use Rattle.ob_code.proofs.rules.code.code_fault.Goals as goal
