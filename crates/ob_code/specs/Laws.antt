@@ -1,15 +1,16 @@
--- Runs of small images on a stack of 64 bytes, with the cycle 0, 1, 2 of manufactured values, no input and ten steps.
-use Rattle.std.specs.Prelude.{◌≡◌, ℕ, pos, List, [], ◌∷◌}
+-- Laws of the machine. The small images run on a stack of 64 bytes, with the cycle 0, 1, 2 of manufactured values, no input
+-- and ten steps.
+use Rattle.std.specs.Prelude.{◌≡◌, ℕ, ◌+◌, ◌*◌, ◌≤◌, pos, List, [], ◌∷◌, length}
 use Rattle.ob_model.specs.declared.endings.Ending.{Ending}
 use Rattle.ob_model.specs.declared.endings.Ending.TheVariants.{Ended, Spent, Descriptors}
 use Rattle.ob_model.specs.declared.settings.Mode.TheVariants.{Oblivious, Boundless}
 use Rattle.ob_model.specs.declared.settings.RunSettings.{RunSettings}
 use Rattle.ob_model.specs.declared.strays.Act.TheVariants as act
 use Rattle.ob_model.specs.declared.strays.StrayEvent.{StrayEvent}
-use Rattle.ob_model.specs.Endings.{closed, plain}
+use Rattle.ob_model.specs.Endings.{InputEnd, closed, plain}
 use Rattle.ob_code.specs.declared.image.Image.{Image}
 use Rattle.ob_code.specs.Examples.{settings_of, hello, return_place, endless, far_pointer, first_block, reused_block, past_the_end}
-use Rattle.ob_code.specs.Start.{laid_out, run_from, outcome_of}
+use Rattle.ob_code.specs.Start.{flat_instructions, laid_out, run_from, outcome_of}
 use Rattle.ob_code.specs.State.{Final}
 
 abbrev pub small_run : Image → RunSettings → Final
@@ -53,3 +54,9 @@ abbrev pub StoreVanishesOrIsKept : Type 0
 StoreVanishesOrIsKept =
     Gives (small_run past_the_end (settings_of Oblivious 1 32)) (Ended (pos 0)) 8 (0 ∷ []) (store_past_end ∷ load_past_end ∷ []) 1
     × Gives (small_run past_the_end (settings_of Boundless 1 32)) (Ended (pos 0)) 8 (7 ∷ []) (store_past_end ∷ load_past_end ∷ []) 0
+
+-- every run begins no more instructions than its bound
+abbrev pub RunsAreBounded : Type 0
+RunsAreBounded =
+    (image : Image) (settings : RunSettings) (cycle : List ℕ) (place : ℕ) (input : List ℕ) (input_end : InputEnd) (steps : ℕ) →
+    flat_instructions image settings cycle place input input_end steps ≤ (length image.code + 1) * (steps + 1)

@@ -1,4 +1,4 @@
-ghost use Rattle.ob_code.specs.Laws.{HelloIsWritten, ReturnPlaceIsCodeLength, EndlessIsSpent, FarPointerHasSlot, HeapStartsAtItsPlace, FreedPlaceIsReused, StoreVanishesOrIsKept};
+ghost use Rattle.ob_code.specs.Laws.{HelloIsWritten, ReturnPlaceIsCodeLength, EndlessIsSpent, FarPointerHasSlot, HeapStartsAtItsPlace, FreedPlaceIsReused, StoreVanishesOrIsKept, RunsAreBounded};
 
 /// Runs of the machine's definition on small images: output, return place and the bound on instructions.
 pub fn law_plain_runs()
@@ -14,4 +14,9 @@ pub fn law_memory_runs()
     ensures heap { HeapStartsAtItsPlace }
     ensures reuse { FreedPlaceIsReused }
     ensures strays { StoreVanishesOrIsKept }
+{}
+
+/// Every run of every image does at most `(instructions in the code + 1) * (steps + 1)` instructions.
+pub fn law_runs_are_bounded()
+    ensures { RunsAreBounded }
 {}
