@@ -39,3 +39,7 @@ pub enum Relation {
     Eq,
     Ne,
 }
+
+/// The one refusal of [`binary`](crate::binary): a division or a remainder by 0.
+#[derive(Clone, Copy, Debug, PartialEq, Eq)]
+pub struct DivideByZero;

@@ -1,0 +1,53 @@
+-- The objects of the heap (C99 7.20.3). A block of the heap lies at 2 ^ 25 plus its place.
+use Rattle.std.specs.Prelude.{ℕ, ◌+◌, ◌-◌, ◌==◌, ◌&&◌, Bool, true, false, ℤ, pos, Option, Some, None}
+use Rattle.std.specs.Ordering.{int_eq}
+use Rattle.ob_words.specs.Words.{block}
+use Rattle.ob_model.specs.declared.objects.Entry.{Entry}
+use Rattle.ob_model.specs.declared.objects.Sort.{Sort}
+use Rattle.ob_model.specs.declared.objects.Sort.TheVariants.{Static, Automatic, Heap}
+use Rattle.ob_model.specs.Entries.{with_entry}
+use Rattle.ob_model.specs.Heap.{heap_place, with_block, without_place}
+use Rattle.ob_flat.specs.Memory.{with_zeros}
+use Rattle.ob_code.specs.State.{Space, without_objects}
+use Rattle.ob_code.specs.Pointers.{Target, nothing, into}
+
+-- the address of a new object of n bytes, which are zero bytes, or 0 where no place fits
+abbrev pub allocated_at : Option ℕ → ℕ → Space → Space
+allocated_at None n s = s
+allocated_at (Some place) n s =
+    record s {
+      memory = with_zeros s.memory (33554432 + place) (block n);
+      entries = with_entry (record { base = 33554432 + place; size = n; object = s.next; sort = Heap }) s.entries;
+      blocks = with_block (record { place = place; length = block n }) s.blocks;
+      next = s.next + 1;
+    }
+
+abbrev pub place_word : Option ℕ → ℕ
+place_word None = 0
+place_word (Some place) = 33554432 + place
+
+abbrev pub place_for : ℕ → ℕ → Space → Option ℕ
+place_for heap n s = heap_place s.blocks heap (block n)
+
+-- what `free` does with what a word names: nothing through null; a heap object's own pointer ends its life; any other pointer
+-- goes astray
+pub data Freeing : Type 0 where
+  no_effect : Freeing
+  dies : (e : Entry) → Freeing
+  stray : (e : Entry) (offset : ℤ) → Freeing
+
+abbrev pub is_heap : Sort → Bool
+is_heap Static = false
+is_heap Automatic = false
+is_heap Heap = true
+
+abbrev pub freeing_if : Bool → Entry → ℤ → Freeing
+freeing_if true e offset = dies e
+freeing_if false e offset = stray e offset
+
+abbrev pub freeing : Target → Freeing
+freeing nothing = no_effect
+freeing (into e offset) = freeing_if (is_heap e.sort && int_eq offset (pos 0)) e offset
+
+abbrev pub freed : Entry → Space → Space
+freed e s = record (without_objects (λ object. object == e.object) s) { blocks = without_place (e.base - 33554432) s.blocks }

@@ -1,0 +1,112 @@
+-- Checked loads and stores. An access goes its course by what its pointer names, its displacement and its size: too far, at an
+-- address of the object, or astray. A stray access is told first. Then it vanishes in oblivious mode, through null, and where
+-- it is ill aligned; in boundless mode it goes on at a granule of the object's own, or at one outside of the object.
+use Rattle.std.specs.Prelude.{ℕ, ◌+◌, ◌-◌, ◌/◌, ◌%◌, Bool, true, false, ℤ, pos, ◌+ℤ◌, unsigned_abs, List, ◌∷◌, [], ◌++◌, Option, Some, None, unwrap_or, if◌then◌else◌}
+use Rattle.std.specs.Option.{option_map}
+use Rattle.ob_words.specs.declared.types.IntType.{IntType}
+use Rattle.ob_words.specs.Fields.{low_bytes}
+use Rattle.ob_words.specs.Types.{width}
+use Rattle.ob_words.specs.Words.{word, number}
+use Rattle.ob_model.specs.declared.objects.Entry.{Entry}
+use Rattle.ob_model.specs.declared.settings.Mode.{Mode}
+use Rattle.ob_model.specs.declared.settings.Mode.TheVariants.{Oblivious, Boundless}
+use Rattle.ob_model.specs.declared.settings.RunSettings.{RunSettings}
+use Rattle.ob_model.specs.declared.strays.Act.{Act}
+use Rattle.ob_model.specs.declared.strays.StrayEvent.{StrayEvent}
+use Rattle.ob_model.specs.declared.values.LoadKind.{LoadKind}
+use Rattle.ob_model.specs.declared.values.LoadKind.TheVariants.{Num, Ptr}
+use Rattle.ob_model.specs.Accesses.{bytes_of_kind, is_aligned, is_far, is_inside, is_own, granule, place_in_granule}
+use Rattle.ob_model.specs.Bounded.{Listed, listed_cell, after_load, after_store}
+use Rattle.ob_model.specs.Cells.{Content, bytes, pointer, unset, read_number, read_pointer, written}
+use Rattle.ob_flat.specs.Memory.{Memory, field, with_field, has_mark, with_mark, with_zeros}
+use Rattle.ob_code.specs.Pointers.{Target, nothing, into, resolve}
+use Rattle.ob_code.specs.State.{Space}
+
+pub data Course : Type 0 where
+  too_far : Course
+  direct : (address : ℕ) → Course
+  own : (object : ℕ) (offset : ℤ) (address : ℕ) → Course
+  outside : (object : ℕ) (offset : ℤ) → Course
+  vanishing : (object : ℕ) (offset : ℤ) → Course
+
+-- an aligned access in boundless mode, by whether its granule is the object's own
+abbrev pub boundless_course : Bool → Entry → ℤ → Course
+boundless_course true e offset = own e.object offset (e.base + unsigned_abs offset)
+boundless_course false e offset = outside e.object offset
+
+abbrev pub stray_course : Mode → Bool → Entry → ℤ → Course
+stray_course Oblivious aligned e offset = vanishing e.object offset
+stray_course Boundless false e offset = vanishing e.object offset
+stray_course Boundless true e offset = boundless_course (is_own e.size offset) e offset
+
+-- an access of an object, by whether it is aligned and whether it is inside
+abbrev pub object_course : Mode → Bool → Bool → Entry → ℤ → Course
+object_course mode true true e offset = direct (e.base + unsigned_abs offset)
+object_course mode true false e offset = stray_course mode true e offset
+object_course mode false inside e offset = stray_course mode false e offset
+
+abbrev pub course_in : Mode → Entry → ℤ → ℕ → Course
+course_in mode e offset k =
+    if is_far offset then too_far else object_course mode (is_aligned offset k) (is_inside e.size offset k) e offset
+
+-- through null the object is 0 and the offset is the displacement
+abbrev pub course_to : Mode → Target → ℤ → ℕ → Course
+course_to mode nothing d k = vanishing 0 d
+course_to mode (into e offset) d k = course_in mode e (offset +ℤ d) k
+
+abbrev pub course : Mode → Space → ℕ → ℤ → ℕ → Course
+course mode s w d k = if is_far d then too_far else course_to mode (resolve s w) d k
+
+-- the word of a number's type that a number stands for
+abbrev pub number_word : IntType → ℕ → ℕ
+number_word t n = word (number t n)
+
+-- what a load reads at an address: a number in a pointer's granule is 0, and a pointer among bytes is null
+abbrev pub read_memory : LoadKind → Memory → ℕ → ℕ
+read_memory (Num t) m address = if has_mark m address then 0 else number_word t (field m address (width t / 8))
+read_memory Ptr m address = if has_mark m address then field m address 8 else 0
+
+-- what a store writes at an address: a number's bytes, with the others of its granule 0 where a pointer stood there, or a
+-- whole pointer
+abbrev pub without_pointer : Memory → ℕ → Memory
+without_pointer m address = if has_mark m address then with_zeros m (address - address % 8) 8 else m
+
+abbrev pub write_memory : LoadKind → Memory → ℕ → ℕ → Memory
+write_memory (Num t) m address w = with_field (without_pointer m address) address (width t / 8) w
+write_memory Ptr m address w = with_mark (with_field m address 8 w) address true
+
+-- the same in a granule outside of objects, where a load may find an unset byte
+abbrev pub read_cell : LoadKind → ℤ → Content ℕ → Option ℕ
+read_cell (Num t) offset c = option_map (number_word t) (read_number (width t / 8) (place_in_granule offset) c)
+read_cell Ptr offset c = read_pointer 0 c
+
+abbrev pub write_cell : LoadKind → ℤ → ℕ → Content ℕ → Content ℕ
+write_cell (Num t) offset w c = written (place_in_granule offset) (low_bytes (width t / 8) w) c
+write_cell Ptr offset w c = pointer w
+
+-- what a load finds there: nothing where the granule isn't listed
+abbrev pub read_listed : LoadKind → ℤ → Option (Content ℕ) → Option ℕ
+read_listed kind offset None = None
+read_listed kind offset (Some c) = read_cell kind offset c
+
+abbrev pub read_outside : LoadKind → ℕ → ℤ → Space → Option ℕ
+read_outside kind object offset s = read_listed kind offset (listed_cell object (granule offset) s.outside)
+
+abbrev pub after_outside_load : ℕ → ℤ → Space → Space
+after_outside_load object offset s = record s { outside = after_load object (granule offset) s.outside }
+
+abbrev pub after_outside_store : ℕ → LoadKind → ℕ → ℤ → ℕ → Space → Space
+after_outside_store cap kind object offset w s =
+    record s { outside = after_store cap object (granule offset) (write_cell kind offset w (unwrap_or (listed_cell object (granule offset) s.outside) unset)) s.outside }
+
+-- a manufactured value as a load of this kind gives it
+abbrev pub made_word : LoadKind → ℕ → ℕ
+made_word (Num t) n = number_word t n
+made_word Ptr n = 0
+
+abbrev pub stray_event : ℕ → Act → ℕ → ℤ → ℕ → StrayEvent
+stray_event line act object offset size = record { line = line; act = act; object = object; offset = offset; size = size }
+
+-- the space after a store at an address
+abbrev pub after_direct_store : LoadKind → ℕ → ℕ → Space → Space
+after_direct_store kind address w s = record s { memory = write_memory kind s.memory address w }

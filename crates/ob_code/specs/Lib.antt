@@ -1,0 +1,10 @@
+pub mod State
+pub mod Frames
+pub mod Pointers
+pub mod Courses
+pub mod Allocation
+pub mod Machine
+pub mod Start
+pub mod Examples
+pub mod Laws
+pub mod Rules

@@ -1,0 +1,294 @@
+-- The rules of an image, row by row, rows counted from 0. An image that keeps them all can be run: its objects lie apart, its
+-- frames have room for what their functions use, and no run leaves the code.
+use Rattle.std.specs.Prelude.{◌≡◌, ◌≢◌, ℕ, ◌+◌, ◌-◌, ◌*◌, ◌%◌, ◌^◌, ◌≤◌, ◌<◌, ◌⊎◌, ℤ, pos, negsuc, ◌≤ℤ◌, ◌<ℤ◌, unsigned_abs, List, [], length, take, slice_get, slice_index, slice_index_or, Option, Some, None}
+use Rattle.ob_words.specs.declared.types.Relation.{Relation}
+use Rattle.ob_words.specs.declared.types.Relation.TheVariants.{Lt, Gt, Le, Ge, Eq, Ne}
+use Rattle.ob_code.specs.declared.faults.BadImage.{BadImage}
+use Rattle.ob_code.specs.declared.image.FunctionRow.{FunctionRow}
+use Rattle.ob_code.specs.declared.image.Image.{Image}
+use Rattle.ob_code.specs.declared.image.LocalRow.{LocalRow}
+use Rattle.ob_code.specs.declared.faults.Part.{Part}
+use Rattle.ob_code.specs.declared.faults.Part.TheVariants as part
+use Rattle.ob_code.specs.declared.image.PointerRow.{PointerRow}
+use Rattle.ob_code.specs.declared.image.StaticRow.{StaticRow}
+use Rattle.ob_code.specs.declared.instructions.Instr.{Instr}
+use Rattle.ob_code.specs.declared.instructions.Instr.TheVariants.{Tick, Set, Move, Convert, Binary, Compare, Jump, JumpZero, JumpNonzero, Call, Return, Static, Local, Wipe, Load, Store, Slide, SlideBy, Shift, Same, Order, Difference, GetChar, PutChar, Malloc, Calloc, Free, Exit}
+use Rattle.ob_code.specs.Frames.{function_at, words_end, local_end, frame_length}
+use Rattle.ob_code.specs.Machine.{blocks_of, no_local}
+
+-- ---- static objects
+
+abbrev pub no_static : StaticRow
+no_static = record { size = 0; given = [] }
+
+abbrev pub static_at : List StaticRow → ℕ → StaticRow
+static_at rows i = slice_index_or rows i no_static
+
+-- a static object has a size and first bytes within it, of which the last isn't 0, and the blocks up to it have room
+pub record IsStaticSound (rows : List StaticRow) (i : ℕ) : Type 0 where
+  pub size : (static_at rows i).size ≤ 4194304
+  pub given : length (static_at rows i).given ≤ (static_at rows i).size
+  pub last : 0 < length (static_at rows i).given → slice_index (static_at rows i).given (length (static_at rows i).given - 1) ≢ 0
+  pub room : blocks_of (take (i + 1) rows) ≤ 4194304
+  -- static objects are not run yet
+  pub built : ⊥
+
+-- ---- pointers that static objects hold
+
+abbrev pub no_pointer : PointerRow
+no_pointer = record { holder = 0; offset = 0; target = 0; target_offset = 0 }
+
+abbrev pub pointer_at : List PointerRow → ℕ → PointerRow
+pointer_at rows i = slice_index_or rows i no_pointer
+
+-- a static object of this number, from 1
+abbrev pub HasStatic : List StaticRow → ℕ → Type 0
+HasStatic statics object = (1 ≤ object) × (object ≤ length statics)
+
+-- one row stands before another: by holder, then by offset
+abbrev pub IsBefore : PointerRow → PointerRow → Type 0
+IsBefore p q = (p.holder < q.holder) ⊎ ((p.holder ≡ q.holder) × (p.offset < q.offset))
+
+pub record IsPointerSound (statics : List StaticRow) (rows : List PointerRow) (i : ℕ) : Type 0 where
+  pub holder : HasStatic statics (pointer_at rows i).holder
+  pub target : HasStatic statics (pointer_at rows i).target
+  pub multiple : (pointer_at rows i).offset % 8 ≡ 0
+  pub inside : (pointer_at rows i).offset + 8 ≤ (static_at statics ((pointer_at rows i).holder - 1)).size
+  pub target_inside : (pointer_at rows i).target_offset ≤ (static_at statics ((pointer_at rows i).target - 1)).size
+  pub bytes : (k : ℕ) → k < 8 → slice_index (static_at statics ((pointer_at rows i).holder - 1)).given ((pointer_at rows i).offset + k) ≡ 0
+  pub order : 0 < i → IsBefore (pointer_at rows (i - 1)) (pointer_at rows i)
+
+-- ---- functions
+
+abbrev pub local_at : FunctionRow → ℕ → LocalRow
+local_at f j = slice_index_or f.locals j no_local
+
+-- a local object lies in whole blocks after the frame's words and the objects before it
+pub record IsLocalSound (f : FunctionRow) (j : ℕ) : Type 0 where
+  pub ordinal : (local_at f j).ordinal < f.vars
+  pub size : (local_at f j).size ≤ 4194304
+  pub multiple : (local_at f j).place % 16 ≡ 0
+  pub after_words : words_end f.words ≤ (local_at f j).place
+  pub ordinals : 0 < j → (local_at f (j - 1)).ordinal < (local_at f j).ordinal
+  pub places : 0 < j → local_end (local_at f (j - 1)) ≤ (local_at f j).place
+
+-- a frame has words for the links and parameters, and its stack allowance covers it
+pub record IsFrameSound (f : FunctionRow) : Type 0 where
+  pub least_words : 2 + f.params ≤ f.words
+  pub most_words : f.words ≤ 4194304
+  pub vars : f.vars ≤ 524288
+  pub locals : (j : ℕ) → j < length f.locals → IsLocalSound f j
+  pub multiple : f.allowance % 16 ≡ 0
+  pub most_allowance : f.allowance ≤ 2 ^ 62
+  pub covers : frame_length f ≤ f.allowance
+
+-- the first entry is 0, entries increase, and each is a place of the code
+pub record IsEntrySound (image : Image) (i : ℕ) : Type 0 where
+  pub first : i ≡ 0 → (function_at image i).entry ≡ 0
+  pub order : 0 < i → (function_at image (i - 1)).entry < (function_at image i).entry
+  pub in_code : (function_at image i).entry < length image.code
+
+pub record IsFunctionSound (image : Image) (i : ℕ) : Type 0 where
+  pub entry : IsEntrySound image i
+  pub frame : IsFrameSound (function_at image i)
+  -- local objects are not run yet
+  pub built : (function_at image i).locals ≡ []
+
+-- ---- main
+
+pub record IsMainSound (image : Image) : Type 0 where
+  pub exists : image.main < length image.functions
+  pub no_params : (function_at image image.main).params ≡ 0
+
+-- ---- code
+
+-- a function's code runs from its entry to the next function's, and the last one's to the end
+abbrev pub entry_or : Option FunctionRow → ℕ → ℕ
+entry_or None n = n
+entry_or (Some f) n = f.entry
+
+abbrev pub code_end : Image → ℕ → ℕ
+code_end image f = entry_or (slice_get image.functions (f + 1)) (length image.code)
+
+pub record IsCodeOf (image : Image) (f i : ℕ) : Type 0 where
+  pub is_function : f < length image.functions
+  pub after_entry : (function_at image f).entry ≤ i
+  pub before_end : i < code_end image f
+
+-- words that are written and read, places that are jumped to, numbers in a range
+abbrev pub IsWritten : ℕ → ℕ → Type 0
+IsWritten words a = (2 ≤ a) × (a < words)
+
+abbrev pub IsBetween : ℕ → ℕ → ℤ → Type 0
+IsBetween low high (pos n) = (low ≤ n) × (n ≤ high)
+IsBetween low high (negsuc n) = ⊥
+
+abbrev pub IsBelow : ℕ → ℤ → Type 0
+IsBelow count (pos n) = n < count
+IsBelow count (negsuc n) = ⊥
+
+abbrev pub IsPlaceOf : Image → ℕ → ℤ → Type 0
+IsPlaceOf image f (pos n) = ((function_at image f).entry ≤ n) × (n < code_end image f)
+IsPlaceOf image f (negsuc n) = ⊥
+
+-- pointers are ordered by < > <= >=
+abbrev pub IsOrdering : Relation → Type 0
+IsOrdering Lt = Unit {0}
+IsOrdering Gt = Unit {0}
+IsOrdering Le = Unit {0}
+IsOrdering Ge = Unit {0}
+IsOrdering Eq = ⊥
+IsOrdering Ne = ⊥
+
+-- the operands of an instruction of function f
+abbrev pub words_of : Image → ℕ → ℕ
+words_of image f = (function_at image f).words
+
+abbrev pub AreOperandsSound : Image → ℕ → Instr → Type 0
+AreOperandsSound image f Tick = Unit {0}
+AreOperandsSound image f (Set a imm) = IsWritten (words_of image f) a
+AreOperandsSound image f (Move a b) = IsWritten (words_of image f) a × (b < words_of image f)
+AreOperandsSound image f (Convert kind a b) = IsWritten (words_of image f) a × (b < words_of image f)
+AreOperandsSound image f (Binary kind operator a b c) =
+    IsWritten (words_of image f) a × (b < words_of image f) × (c < words_of image f)
+AreOperandsSound image f (Compare kind relation a b c) =
+    IsWritten (words_of image f) a × (b < words_of image f) × (c < words_of image f)
+AreOperandsSound image f (Jump imm) = IsPlaceOf image f imm
+AreOperandsSound image f (JumpZero b imm) = (b < words_of image f) × IsPlaceOf image f imm
+AreOperandsSound image f (JumpNonzero b imm) = (b < words_of image f) × IsPlaceOf image f imm
+AreOperandsSound image f (Call a b imm) =
+    IsWritten (words_of image f) a × (b < words_of image f) × IsBelow (length image.functions) imm
+    × (b + (function_at image (unsigned_abs imm)).params ≤ words_of image f)
+AreOperandsSound image f (Return b) = b < words_of image f
+AreOperandsSound image f (Static a imm) = IsWritten (words_of image f) a × IsBetween 1 (length image.statics) imm
+AreOperandsSound image f (Local a imm) =
+    IsWritten (words_of image f) a × IsBelow (length (function_at image f).locals) imm
+AreOperandsSound image f (Wipe imm) = IsBelow (length (function_at image f).locals) imm
+AreOperandsSound image f (Load kind line a b c) =
+    IsWritten (words_of image f) a × (b < words_of image f) × (c < words_of image f)
+AreOperandsSound image f (Store kind line a b c) =
+    (a < words_of image f) × (b < words_of image f) × (c < words_of image f)
+AreOperandsSound image f (Slide a b c imm) =
+    IsWritten (words_of image f) a × (b < words_of image f) × (c < words_of image f) × (unsigned_abs imm ≤ 4194304)
+AreOperandsSound image f (SlideBy a b imm) =
+    IsWritten (words_of image f) a × (b < words_of image f) × IsBetween 0 4194304 imm
+AreOperandsSound image f (Shift a b c) =
+    IsWritten (words_of image f) a × (b < words_of image f) × (c < words_of image f)
+AreOperandsSound image f (Same a b c) =
+    IsWritten (words_of image f) a × (b < words_of image f) × (c < words_of image f)
+AreOperandsSound image f (Order relation a b c) =
+    IsWritten (words_of image f) a × (b < words_of image f) × (c < words_of image f) × IsOrdering relation
+AreOperandsSound image f (Difference a b c imm) =
+    IsWritten (words_of image f) a × (b < words_of image f) × (c < words_of image f) × IsBetween 1 4194304 imm
+AreOperandsSound image f (GetChar a) = IsWritten (words_of image f) a
+AreOperandsSound image f (PutChar a b) = IsWritten (words_of image f) a × (b < words_of image f)
+AreOperandsSound image f (Malloc a b) = IsWritten (words_of image f) a × (b < words_of image f)
+AreOperandsSound image f (Calloc a b c) =
+    IsWritten (words_of image f) a × (b < words_of image f) × (c < words_of image f)
+AreOperandsSound image f (Free line b) = b < words_of image f
+AreOperandsSound image f (Exit b) = b < words_of image f
+
+-- an instruction after which the next place isn't reached
+abbrev pub IsLast : Instr → Type 0
+IsLast (Jump imm) = Unit {0}
+IsLast (Return b) = Unit {0}
+IsLast (Exit b) = Unit {0}
+IsLast _ = ⊥
+
+-- instructions on objects are not run yet
+abbrev pub IsBuilt : Instr → Type 0
+IsBuilt (Static a imm) = ⊥
+IsBuilt (Local a imm) = ⊥
+IsBuilt (Wipe imm) = ⊥
+IsBuilt (Load kind line a b c) = ⊥
+IsBuilt (Store kind line a b c) = ⊥
+IsBuilt (Shift a b c) = ⊥
+IsBuilt (Same a b c) = ⊥
+IsBuilt (Order relation a b c) = ⊥
+IsBuilt (Difference a b c imm) = ⊥
+IsBuilt (Malloc a b) = ⊥
+IsBuilt (Calloc a b c) = ⊥
+IsBuilt (Free line b) = ⊥
+IsBuilt _ = Unit {0}
+
+abbrev pub instruction_at : Image → ℕ → Instr
+instruction_at image i = slice_index_or image.code i Tick
+
+-- an instruction of function f; the last one of a function goes nowhere on
+pub record IsInstructionSound (image : Image) (f i : ℕ) : Type 0 where
+  pub operands : AreOperandsSound image f (instruction_at image i)
+  pub last : i + 1 ≡ code_end image f → IsLast (instruction_at image i)
+  pub built : IsBuilt (instruction_at image i)
+
+abbrev pub IsCodeSound : Image → ℕ → Type 0
+IsCodeSound image i = (f : ℕ) → IsCodeOf image f i → IsInstructionSound image f i
+
+-- ---- the whole image
+
+-- so many rows at most, and each of them is sound
+pub record AreSound (limit count : ℕ) (Rule : ℕ → Type 0) : Type 0 where
+  pub most : count ≤ limit
+  pub each : (i : ℕ) → i < count → Rule i
+
+abbrev pub AreStaticsSound : Image → Type 0
+AreStaticsSound image = AreSound 262144 (length image.statics) (IsStaticSound image.statics)
+
+abbrev pub ArePointersSound : Image → Type 0
+ArePointersSound image = AreSound 524288 (length image.pointers) (IsPointerSound image.statics image.pointers)
+
+pub record AreFunctionsSound (image : Image) : Type 0 where
+  pub some : 0 < length image.functions
+  pub rows : AreSound 65536 (length image.functions) (IsFunctionSound image)
+
+abbrev pub IsAllCodeSound : Image → Type 0
+IsAllCodeSound image = AreSound 1048576 (length image.code) (IsCodeSound image)
+
+pub record IsVerified (image : Image) : Type 0 where
+  pub statics : AreStaticsSound image
+  pub pointers : ArePointersSound image
+  pub functions : AreFunctionsSound image
+  pub main : IsMainSound image
+  pub code : IsAllCodeSound image
+
+-- ---- the first fault
+
+-- a part is at fault at the limit's number where it has more rows, and else at the first row that isn't sound
+pub data IsFaultAt (limit count : ℕ) (Rule : ℕ → Type 0) (at : ℕ) : Type 0 where
+  too_many : (more : limit < count) (is_limit : at ≡ limit) → IsFaultAt limit count Rule at
+  broken : (most : count ≤ limit) (row : at < count) (unsound : ¬ Rule at) (before : (i : ℕ) → i < at → Rule i) → IsFaultAt limit count Rule at
+
+-- what the test of a part answers
+abbrev pub IsPartAnswer : ℕ → ℕ → (ℕ → Type 0) → Option ℕ → Type 0
+IsPartAnswer limit count Rule None = AreSound limit count Rule
+IsPartAnswer limit count Rule (Some at) = IsFaultAt limit count Rule at
+
+abbrev pub IsStaticFault : Image → ℕ → Type 0
+IsStaticFault image at = IsFaultAt 262144 (length image.statics) (IsStaticSound image.statics) at
+
+abbrev pub IsPointerFault : Image → ℕ → Type 0
+IsPointerFault image at = IsFaultAt 524288 (length image.pointers) (IsPointerSound image.statics image.pointers) at
+
+-- an image without a function is at fault at row 0
+abbrev pub IsFunctionFault : Image → ℕ → Type 0
+IsFunctionFault image at =
+    ((length image.functions ≡ 0) × (at ≡ 0)) ⊎ IsFaultAt 65536 (length image.functions) (IsFunctionSound image) at
+
+abbrev pub IsMainFault : Image → ℕ → Type 0
+IsMainFault image at = (at ≡ 0) × ¬ IsMainSound image
+
+abbrev pub IsCodeFault : Image → ℕ → Type 0
+IsCodeFault image at = IsFaultAt 1048576 (length image.code) (IsCodeSound image) at
+
+-- the parts before are sound, and this one is at fault at this row
+abbrev pub IsFaultIn : Part → Image → ℕ → Type 0
+IsFaultIn part.Bytes image at = ⊥
+IsFaultIn part.Static image at = IsStaticFault image at
+IsFaultIn part.Pointer image at = AreStaticsSound image × IsPointerFault image at
+IsFaultIn part.Function image at = AreStaticsSound image × ArePointersSound image × IsFunctionFault image at
+IsFaultIn part.Main image at =
+    AreStaticsSound image × ArePointersSound image × AreFunctionsSound image × IsMainFault image at
+IsFaultIn part.Code image at =
+    AreStaticsSound image × ArePointersSound image × AreFunctionsSound image × IsMainSound image × IsCodeFault image at
+
+abbrev pub IsFirstFault : Image → BadImage → Type 0
+IsFirstFault image bad = IsFaultIn bad.part image bad.at

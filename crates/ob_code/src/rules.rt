@@ -1,0 +1,6 @@
+// The rules of an image, part by part.
+
+pub mod code;
+pub mod functions;
+pub mod main_function;
+pub mod objects;

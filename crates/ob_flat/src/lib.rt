@@ -1,0 +1,9 @@
+//! The bytes of the flat machine, with a mark for each granule of eight bytes that says whether it holds
+//! a pointer. They lie in three ranges of addresses: statics from 4096, the stack from 2^24, and the heap
+//! from 2^25. Each call changes what it names and nothing else. Stands on ob_words for little-endian
+//! fields and on ob_base for its one error.
+#![tactic(auto)]
+
+pub use flat::Flat;
+
+mod flat;

@@ -1,0 +1,47 @@
+-- Which accesses go astray. An object's bytes are numbered by offsets from 0 to its size, and every other offset lies
+-- outside it (C99 6.5.6). Memory is seen in granules of eight bytes, which are numbered by whole numbers, negative ones too.
+use Rattle.std.specs.Prelude.{ℕ, ◌+◌, ◌/◌, ◌%◌, ◌^◌, Bool, false, ◌==◌, ◌&&◌, nat_le, nat_lt, not, ℤ, pos, negsuc, ◌+ℤ◌, ◌≤ℤ◌, unsigned_abs}
+use Rattle.std.specs.Int.{int_div_euclid, int_rem_euclid}
+use Rattle.ob_words.specs.Types.{width}
+use Rattle.ob_model.specs.declared.values.LoadKind.{LoadKind}
+use Rattle.ob_model.specs.declared.values.LoadKind.TheVariants.{Num, Ptr}
+
+-- the bytes that a load or store moves
+abbrev pub bytes_of_kind : LoadKind → ℕ
+bytes_of_kind (Num t) = width t / 8
+bytes_of_kind Ptr = 8
+
+-- the k bytes from the offset on lie in an object of this size
+abbrev pub IsInside : ℕ → ℤ → ℕ → Type 0
+IsInside size offset k = (pos 0 ≤ℤ offset) × ((offset +ℤ pos k) ≤ℤ pos size)
+
+abbrev pub is_inside : ℕ → ℤ → ℕ → Bool
+is_inside size (pos n) k = nat_le (n + k) size
+is_inside size (negsuc n) k = false
+
+-- k divides the offset
+abbrev pub is_aligned : ℤ → ℕ → Bool
+is_aligned offset k = unsigned_abs offset % k == 0
+
+-- an access through a pointer goes astray; one through null always does
+abbrev pub is_stray : ℕ → ℤ → ℕ → Bool
+is_stray size offset k = not (is_aligned offset k && is_inside size offset k)
+
+-- the granule of an offset, rounded down, and the place of its byte there
+abbrev pub granule : ℤ → ℤ
+granule offset = int_div_euclid offset (pos 8)
+
+abbrev pub place_in_granule : ℤ → ℕ
+place_in_granule offset = unsigned_abs (int_rem_euclid offset (pos 8))
+
+-- the granules that an object of this size has of its own: from 0 up to and not including this one
+abbrev pub own_granules : ℕ → ℕ
+own_granules size = (size + 7) / 8
+
+abbrev pub is_own : ℕ → ℤ → Bool
+is_own size (pos n) = nat_lt (n / 8) (own_granules size)
+is_own size (negsuc n) = false
+
+-- a displacement, or an offset, that lies outside -2^62 to 2^62
+abbrev pub is_far : ℤ → Bool
+is_far offset = nat_lt (2 ^ 62) (unsigned_abs offset)

@@ -1,0 +1,9 @@
+-- Which settings a run may have.
+use Rattle.std.specs.Prelude.{◌≤◌}
+use Rattle.ob_model.specs.declared.settings.RunSettings.{RunSettings}
+
+pub record IsFit (s : RunSettings) : Type 0 where
+  pub least_store : 1 ≤ s.store
+  pub most_store : s.store ≤ 1048576
+  pub away : s.away ≤ 1048576
+  pub heap : s.heap ≤ 67108864

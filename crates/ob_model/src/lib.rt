@@ -1,0 +1,23 @@
+//! What the meaning of a program and the machine that runs it share: values, cells of memory, stray
+//! accesses, settings and endings. Its definitions say which accesses stray, where the heap places an
+//! allocation, what a granule of eight bytes gives and takes, how the bounded list of stray cells moves,
+//! and when two runs agree. Stands on ob_words, and takes no memory.
+#![tactic(auto)]
+
+pub use accesses::{granule_of, inside, size_of_kind};
+pub use endings::Ending;
+pub use laws::{law_bounded_list, law_cells, law_first_fit};
+pub use objects::{Entry, Sort};
+pub use settings::{Mode, RunSettings};
+pub use strays::{Act, StrayEvent};
+pub use values::{Cell, LoadKind, Value};
+
+mod accesses;
+mod endings;
+mod laws;
+mod objects;
+mod settings;
+mod strays;
+#[cfg(test)]
+mod tests;
+mod values;

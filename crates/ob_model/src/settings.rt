@@ -1,0 +1,18 @@
+/// What becomes of stray accesses: they vanish (failure-oblivious computing), or they reach granules that
+/// each object has outside its bounds (boundless memory blocks).
+#[derive(Clone, Copy, Debug, PartialEq, Eq)]
+pub enum Mode {
+    Oblivious,
+    Boundless,
+}
+
+/// How a program is run: the mode, the most granules that are kept outside of objects (1 to 1,048,576),
+/// the most pointers that are kept out of bounds (at most 1,048,576), and the bytes of the heap (at most
+/// 67,108,864).
+#[derive(Clone, Copy, Debug, PartialEq, Eq)]
+pub struct RunSettings {
+    pub mode: Mode,
+    pub store: u64,
+    pub away: u64,
+    pub heap: u64,
+}

@@ -1,0 +1,8 @@
+use Rattle.ob_words.proofs.Conversions.{convert_own, convert_twice}
+use Rattle.ob_words.proofs.laws.law_convert_twice.Goals as goal
+
+pub returns-clause-own : goal.returns-clause-own
+returns-clause-own c = convert_own
+
+pub returns-clause-twice : goal.returns-clause-twice
+returns-clause-twice c = convert_twice
