@@ -1,23 +1,13 @@
 -- What a table keeps while a pair enters and while an object's pairs leave.
-use Rattle.std.proofs.Common.{◌≡◌, ◌==◌, ℕ, zero, suc, ◌-◌, ◌<◌, ◌⊎◌, Bool, true, false, List, length, get_or, set, replicate, [], ◌∷◌, ◌++◌, arith, Option, Some, None, ap, ⊎_elim, inl, inr, sym, ◌∙◌, get_or-set_same, get_or-set_other, refl, if◌then◌else◌}
+use Rattle.std.proofs.Common.{◌≡◌, ◌==◌, ℕ, suc, ◌<◌, ◌⊎◌, Bool, true, false, List, length, get_or, set, [], ◌∷◌, arith, Option, Some, None, ap, ⊎_elim, inl, inr, sym, ◌∙◌, get_or-set_same, get_or-set_other, refl, if◌then◌else◌}
 use Rattle.std.proofs.lemmas.Bool.{cases_eq, cases_Bool, both_ways, eq-eqb, ne_eqb, cond-true, cond-false}
-use Rattle.std.proofs.lemmas.List.{set-append_left, length-set, length-map, map-append}
 use Rattle.std.proofs.Math.ListN.{get_or-map}
 use Rattle.ob_away.specs.Slots.{Pair, Slots, IsInterned, holds, is_of, slot_of, pair_in, without}
-use Rattle.ob_away.specs.Kept.{Index, named, mark_of, padded, free_below, IsIndexed, IsMarked}
+use Rattle.ob_away.specs.Kept.{Index, named, mark_of, free_below, IsIndexed, IsMarked}
 use Rattle.ob_away.proofs.Positions.{none_before}
 use Rattle.ob_away.proofs.Pairs.{within_slots, same_pair-same}
-use Rattle.ob_away.proofs.Padded.{pair_in-padded, slot_of-padded}
 
--- slots that read the same once they are padded
-pub pair_in-same : (limit : ℕ) (slots others : Slots) → padded limit others ≡ padded limit slots → (k : ℕ) → pair_in others k ≡ pair_in slots k
-pair_in-same limit slots others same k =
-    sym (pair_in-padded limit others k) ∙ ap (λ (xs : Slots). pair_in xs k) same ∙ pair_in-padded limit slots k
-
-pub slot_of-same : (limit : ℕ) (slots others : Slots) (pair : Pair) → padded limit others ≡ padded limit slots → slot_of others pair ≡ slot_of slots pair
-slot_of-same limit slots others pair same =
-    sym (slot_of-padded limit others pair) ∙ ap (λ (xs : Slots). slot_of xs pair) same ∙ slot_of-padded limit slots pair
-
+-- slots that read the same
 pub IsInterned-same : (slots others : Slots) → ((k : ℕ) → pair_in others k ≡ pair_in slots k) → IsInterned slots → IsInterned others
 IsInterned-same slots others same interned i j pair at_i at_j = interned i j pair (sym (same i) ∙ at_i) (sym (same j) ∙ at_j)
 
@@ -74,11 +64,6 @@ IsMarked-entered marks slots s pair within long marked k other held =
     (entered slots s pair k other within held))
     (cases_eq (mark_of other.0) (mark_of pair.0))
 
-pub padded-entered : (limit : ℕ) (slots : Slots) (s : ℕ) (pair : Pair) → s < length slots → padded limit (set slots s (Some pair)) ≡ set (padded limit slots) s (Some pair)
-padded-entered limit slots s pair within =
-    ap (λ (n : ℕ). set slots s (Some pair) ++ replicate (limit - n) None) (length-set slots s (Some pair))
-    ∙ sym (set-append_left slots (replicate (limit - length slots) None) s (Some pair) within)
-
 -- what a slot holds once an object's slots are freed
 kept_some : (object : ℕ) (slot : Option Pair) (pair : Pair) → (if is_of object slot then None else slot) ≡ Some pair → (slot ≡ Some pair) × (object ≡ pair.0 → ⊥)
 kept_some object None pair is = absurd cc
@@ -130,16 +115,6 @@ IsMarked-without marks object slots shared long marked alone k pair held =
     (λ apart. get_or-set_other marks (mark_of object) (mark_of pair.0) shared false apart ∙ marked k pair (held_without object slots k pair held).0)
     (cases_eq (mark_of pair.0) (mark_of object))
 
-without-replicate : (object n : ℕ) → without object (replicate n None) ≡ replicate n None
-without-replicate object zero = refl
-without-replicate object (suc n) = ap (λ (xs : Slots). None ∷ xs) (without-replicate object n)
-
-pub without-padded : (limit object : ℕ) (slots : Slots) → without object (padded limit slots) ≡ padded limit (without object slots)
-without-padded limit object slots =
-    map-append (λ slot. if is_of object slot then None else slot) slots (replicate (limit - length slots) None)
-    ∙ ap (λ (xs : Slots). without object slots ++ xs) (without-replicate object (limit - length slots))
-    ∙ ap (λ n. without object slots ++ replicate (limit - n) None) (sym (length-map slots (λ slot. if is_of object slot then None else slot)))
-
 pub mark_of-below : (object : ℕ) → mark_of object < 65536
 mark_of-below object = omega arith
 
@@ -151,11 +126,6 @@ IsIndexed-none index slots none = record { by_slot = λ k pair held. absurd (ome
 
 pub IsMarked-none : (marks : List Bool) (slots : Slots) → slots ≡ [] → IsMarked marks slots
 IsMarked-none marks slots none k pair held = absurd (omega (arith, within_slots slots k pair held, ap length none))
-
-pub padded-none : (limit : ℕ) (slots : Slots) → slots ≡ [] → padded limit slots ≡ replicate limit None
-padded-none limit slots none =
-    let all : limit - 0 ≡ limit = omega arith in
-    ap (padded limit) none ∙ ap (λ n. replicate n None) all
 
 pub free_below-none : (slots : Slots) → slots ≡ [] → free_below slots (length slots) ≡ []
 free_below-none slots none = ap (λ (xs : Slots). free_below xs (length xs)) none

@@ -3,7 +3,7 @@ use Rattle.std.proofs.Common.{◌≡◌, ℕ, zero, suc, ◌<◌, ◌≤◌, tru
 use Rattle.std.specs.Prelude.{is_none, IfNone, IfSome}
 use Rattle.std.specs.Option.{option_to_list}
 use Rattle.std.proofs.lemmas.Bool.{cases_Bool, cases_eq, cond-true, cond-false}
-use Rattle.ob_away.specs.Slots.{Pair, Slots, free_slot, pair_in}
+use Rattle.ob_away.specs.Slots.{Pair, Slots, vacant, pair_in}
 use Rattle.ob_away.specs.Kept.{free_below}
 use Rattle.ob_away.proofs.Positions.{position_is, position_none, none_before}
 
@@ -119,19 +119,19 @@ free_below-taken slots (suc n) (y ∷ ys) s pair within list =
     (cases_Bool (is_none (pair_in slots n)))
 
 -- the least free slot, by `position`
-pub free_slot-first : (slots : Slots) (s : ℕ) → IsFirstFree slots (length slots) s → free_slot slots ≡ Some s
-free_slot-first slots s first = position_is is_none slots None s first.below first.free first.before
+pub vacant-first : (slots : Slots) (s : ℕ) → IsFirstFree slots (length slots) s → vacant slots ≡ Some s
+vacant-first slots s first = position_is is_none slots None s first.below first.free first.before
 
-pub free_slot-none : (slots : Slots) → free_below slots (length slots) ≡ [] → free_slot slots ≡ None
-free_slot-none slots empty = position_none is_none slots None (all_used slots (length slots) empty)
+pub vacant-none : (slots : Slots) → free_below slots (length slots) ≡ [] → vacant slots ≡ None
+vacant-none slots empty = position_none is_none slots None (all_used slots (length slots) empty)
 
 -- what is taken off the end of the list is the least free slot
-pub taken-slot : (slots : Slots) (list rest : List ℕ) (taken : Option ℕ) → list ≡ free_below slots (length slots) → list ≡ rest ++ option_to_list taken → IfNone taken (rest ≡ []) → taken ≡ free_slot slots
+pub taken-slot : (slots : Slots) (list rest : List ℕ) (taken : Option ℕ) → list ≡ free_below slots (length slots) → list ≡ rest ++ option_to_list taken → IfNone taken (rest ≡ []) → taken ≡ vacant slots
 taken-slot slots list rest None is split empty =
     let none : free_below slots (length slots) ≡ [] = sym is ∙ split ∙ ap (λ (ks : List ℕ). ks ++ []) empty in
-    sym (free_slot-none slots none)
+    sym (vacant-none slots none)
 taken-slot slots list rest (Some s) is split empty =
-    sym (free_slot-first slots s (first_free slots (length slots) rest s (sym is ∙ split)))
+    sym (vacant-first slots s (first_free slots (length slots) rest s (sym is ∙ split)))
 
 pub taken-rest : (slots : Slots) (list rest : List ℕ) (taken : Option ℕ) → list ≡ free_below slots (length slots) → list ≡ rest ++ option_to_list taken → IfSome taken (λ s. (pair : Pair) → rest ≡ free_below (set slots s (Some pair)) (length slots))
 taken-rest slots list rest None is split = tt
@@ -146,8 +146,8 @@ pub free_below-down_used : (slots : Slots) (n m : ℕ) → n ≡ suc m → is_no
 free_below-down_used slots n m is used = ap (free_below slots) is ∙ free_below-used slots m used
 
 -- where no slot is free, the list is empty
-pub free_slot-empty : (slots : Slots) → free_slot slots ≡ None → free_below slots (length slots) ≡ []
-free_slot-empty slots none = all_listed slots (length slots) (λ k below. none_before is_none slots None none k below)
+pub vacant-empty : (slots : Slots) → vacant slots ≡ None → free_below slots (length slots) ≡ []
+vacant-empty slots none = all_listed slots (length slots) (λ k below. none_before is_none slots None none k below)
 
 pub IfNone-map : {P Q : Type 0} (taken : Option ℕ) → (P → Q) → IfNone taken P → IfNone taken Q
 IfNone-map None f p = f p
@@ -156,3 +156,7 @@ IfNone-map (Some s) f p = tt
 pub IfSome-at : (P : ℕ → Type 0) (taken : Option ℕ) (s : ℕ) → taken ≡ Some s → P s → IfSome taken P
 IfSome-at P None s is p = absurd cc
 IfSome-at P (Some t) s is p = let same : s ≡ t = cc in subst P same p
+
+pub IfNone-from : {P : Type 0} (taken : Option ℕ) → P → IfNone taken P
+IfNone-from None p = p
+IfNone-from (Some s) p = tt

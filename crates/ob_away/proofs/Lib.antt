@@ -2,5 +2,5 @@ pub mod Positions
 pub mod Pairs
 pub mod Names
 pub mod FreeList
-pub mod Padded
+pub mod Vacant
 pub mod Changes

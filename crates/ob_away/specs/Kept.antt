@@ -1,6 +1,6 @@
 -- What a table of descriptors keeps beside its slots, so that neither a pair nor a free slot is sought
 -- slot by slot.
-use Rattle.std.specs.Prelude.{◌≡◌, ℕ, zero, suc, ◌+◌, ◌-◌, ◌/◌, ◌%◌, ◌<◌, ◌≤◌, Bool, true, false, List, [], ◌∷◌, ◌++◌, length, replicate, Option, Some, None, is_none, if◌then◌else◌, slice_index_or}
+use Rattle.std.specs.Prelude.{◌≡◌, ℕ, zero, suc, ◌+◌, ◌/◌, ◌%◌, ◌<◌, ◌≤◌, Bool, true, false, List, [], ◌∷◌, length, Option, Some, is_none, if◌then◌else◌, slice_index_or}
 use Rattle.std.specs.Global.{Vec}
 use Rattle.std.specs.Vec.{vec_capacity}
 use Rattle.std.specs.declared.hash.FoldHasher.{FoldHasher}
@@ -27,10 +27,6 @@ pub record IsIndexed (index : Index) (slots : Slots) : Type 0 where
 -- the new index names for each other pair what the old one does
 abbrev pub NamesOthers : Index → Index → Pair → Type 0
 NamesOthers old new pair = (other : Pair) → same_pair pair other ≡ false → named new other ≡ named old other
-
--- the slots that were ever used, and those behind them, which are free
-abbrev pub padded : ℕ → Slots → Slots
-padded limit slots = slots ++ replicate (limit - length slots) None
 
 -- the free slots below n, the least one last
 abbrev pub free_below : Slots → ℕ → List ℕ

@@ -1,16 +1,21 @@
 -- Out-of-bounds descriptors, after Ruwase and Lam, "A practical dynamic buffer overflow detector"
 -- (NDSS 2004): a pointer that has left its object is kept as a pair of the object and its offset in
 -- bytes, and the machine holds the word of the slot that the pair stands in.
-use Rattle.std.specs.Prelude.{◌≡◌, ℕ, ◌+◌, ◌*◌, ◌^◌, ℤ, Bool, false, ◌&&◌, ◌==◌, List, Option, Some, None, if◌then◌else◌, map, position, is_none, slice_index_or}
+use Rattle.std.specs.Prelude.{◌≡◌, ℕ, ◌+◌, ◌*◌, ◌^◌, ℤ, Bool, false, ◌&&◌, ◌==◌, List, [], ◌∷◌, ◌++◌, length, Option, Some, None, if◌then◌else◌, map, position, is_none, is_some, count_by, unwrap_or, slice_index_or, slice_set}
 use Rattle.std.specs.Ordering.{int_eq}
 
 -- an object and an offset in bytes, which may be negative
 abbrev pub Pair : Type 0
 Pair = ℕ × ℤ
 
--- each slot is free or holds a pair; there are as many slots as pairs may stand
+-- the slots that were ever used, each free or with a pair
 abbrev pub Slots : Type 0
 Slots = List (Option Pair)
+
+-- the slots, and how many pairs may stand at a time. The slots past the last are free
+pub record Descriptors : Type 0 where
+  pub limit : ℕ
+  pub slots : Slots
 
 abbrev pub same_pair : Pair → Pair → Bool
 same_pair p q = (p.0 == q.0) && int_eq p.1 q.1
@@ -29,9 +34,25 @@ is_of object (Some pair) = object == pair.0
 abbrev pub slot_of : Slots → Pair → Option ℕ
 slot_of slots pair = position (holds pair) slots
 
--- the least free slot, where there is one
-abbrev pub free_slot : Slots → Option ℕ
-free_slot slots = position is_none slots
+-- how many pairs stand
+abbrev pub pair_count : Slots → ℕ
+pair_count slots = count_by is_some slots
+
+-- the least free one of the slots that were ever used
+abbrev pub vacant : Slots → Option ℕ
+vacant slots = position is_none slots
+
+-- the least free slot, which may be the one past the last
+abbrev pub free_slot : Slots → ℕ
+free_slot slots = unwrap_or (vacant slots) (length slots)
+
+-- the slots with a pair in the least free one
+abbrev pub put_slot : Option ℕ → Pair → Slots → Slots
+put_slot None pair slots = slots ++ Some pair ∷ []
+put_slot (Some k) pair slots = slice_set slots k (Some pair)
+
+abbrev pub with_pair : Pair → Slots → Slots
+with_pair pair slots = put_slot (vacant slots) pair slots
 
 -- what slot k holds; nothing past the last slot
 abbrev pub pair_in : Slots → ℕ → Option Pair

@@ -1,5 +1,6 @@
-ghost use Rattle.std.specs.Prelude.{◌≡◌, ℕ, ◌↔◌, length, replicate, None, Some, Ok, IsErr, IsSome, IfOk, IfSome, OnErr, slice_set};
-ghost use Rattle.ob_away.specs.Slots.{IsInterned, slot_of, free_slot, pair_in, word_of, without};
+ghost use Rattle.std.specs.Prelude.{◌≡◌, ℕ, ◌<◌, ◌≤◌, ◌↔◌, [], None, Some, Ok, IsErr, IsSome, IfOk, IfSome, OnErr};
+ghost use Rattle.ob_away.specs.Slots.{Descriptors, IsInterned, slot_of, pair_count, pair_in, word_of, without};
+ghost use Rattle.ob_away.specs.Enters.{Enters};
 
 use crate::free::{claim, free_slots_of, list_free};
 use crate::index::{Index, find, note};
@@ -9,12 +10,13 @@ use std::alloc::Global;
 use std::collections::HashMap;
 use std::marker::Model;
 
-/// The answer of `AwayTable::word_for` where each slot holds another pair.
+/// The answer of `AwayTable::word_for` where as many other pairs stand as the table takes.
 #[derive(Clone, Copy, Debug, PartialEq, Eq)]
 pub struct Full;
 
-/// The out-of-bounds descriptors: as many slots as the table's limit, each free or with a pair of an
-/// object and an offset in bytes. Each pair stands in one slot at most.
+/// The out-of-bounds descriptors: the slots that were ever used, each free or with a pair of an object
+/// and an offset in bytes, and a limit on how many pairs stand at a time. Each pair stands in one slot
+/// at most.
 #[derive(Drop)]
 pub struct AwayTable {
     limit: u32,
@@ -25,12 +27,12 @@ pub struct AwayTable {
 }
 
 impl Model for AwayTable {
-    ghost use Rattle.ob_away.specs.Slots.{Slots};
-    ghost use Rattle.ob_away.specs.Kept.{IsKept, padded};
+    ghost use Rattle.ob_away.specs.Slots.{Descriptors};
+    ghost use Rattle.ob_away.specs.Kept.{IsKept};
 
-    ghost Value = { Slots };
+    ghost Value = { Descriptors };
 
-    ghost view = { λ t. padded t.limit t.slots.items };
+    ghost view = { λ t. record { limit = t.limit; slots = t.slots.items } };
 
     ghost invariant = { λ t. IsKept t.limit t.slots t.free t.index t.marks.items };
 }
@@ -46,10 +48,10 @@ fn word_of(slot: u32) -> u64
 }
 
 impl AwayTable {
-    /// As many free slots as `limit` says. Takes all the memory that the table ever takes, in
-    /// proportion to `limit`, and answers `NoMemory` where there is too little.
+    /// The table without pairs, in which `limit` pairs may stand. Takes all the memory that it will ever
+    /// take, in proportion to `limit`, and answers `NoMemory` where there is too little.
     pub fn new(alloc: Global, limit: u32) -> Result<AwayTable, NoMemory>
-        ensures { IfOk result (λ table. table ≡ replicate limit None) }
+        ensures { IfOk result (λ table. table ≡ record { limit = limit; slots = [] }) }
     {
         let room = limit as usize;
         Ok(AwayTable {
@@ -63,17 +65,17 @@ impl AwayTable {
 
     /// The slot that holds `pair`.
     fn find(&self, pair: (u64, i64)) -> Option<u32>
-        ensures slot { result ≡ slot_of self.now pair }
-        ensures interned { IsInterned self.now }
+        ensures slot { result ≡ slot_of self.now.slots pair }
+        ensures interned { IsInterned self.now.slots }
     {
         find(&self.index, self.slots.as_slice(), pair)
     }
 
     /// Puts a pair that isn't listed into the least free slot.
     fn enter(&mut self, pair: (u64, i64)) -> Result<u64, Full>
-        requires { slot_of self.old pair ≡ None }
-        ensures entered { IfSome (free_slot self.old) (λ k. (result ≡ Ok (word_of k)) × (self.new ≡ slice_set self.old k (Some pair))) }
-        ensures full { IsErr result ↔ (free_slot self.old ≡ None) }
+        requires { slot_of self.old.slots pair ≡ None }
+        ensures entered { pair_count self.old.slots < self.old.limit → Enters self.old self.new result pair }
+        ensures full { IsErr result ↔ (self.old.limit ≤ pair_count self.old.slots) }
         ensures unchanged { OnErr result (self.new ≡ self.old) }
     {
         let Some(slot) = claim(self.limit, &mut self.slots, &mut self.free) else {
@@ -87,11 +89,11 @@ impl AwayTable {
 
     /// The word of the pair of `object` and `offset`: that of its slot where the pair is listed, and
     /// else that of the least free slot, which the pair then takes. A slot's word is 2^40 + 16 * slot.
-    /// `Full` comes exactly where the pair is new and no slot is free, and leaves the table as it was.
+    /// `Full` comes exactly where the pair is new and `limit` pairs stand, and leaves the table as it was.
     pub fn word_for(&mut self, object: u64, offset: i64) -> Result<u64, Full>
-        ensures listed { IfSome (slot_of self.old (object, offset)) (λ k. (result ≡ Ok (word_of k)) × (self.new ≡ self.old)) }
-        ensures entered { slot_of self.old (object, offset) ≡ None → IfSome (free_slot self.old) (λ k. (result ≡ Ok (word_of k)) × (self.new ≡ slice_set self.old k (Some (object, offset)))) }
-        ensures full { IsErr result ↔ ((slot_of self.old (object, offset) ≡ None) × (free_slot self.old ≡ None)) }
+        ensures listed { IfSome (slot_of self.old.slots (object, offset)) (λ k. (result ≡ Ok (word_of k)) × (self.new ≡ self.old)) }
+        ensures entered { slot_of self.old.slots (object, offset) ≡ None → pair_count self.old.slots < self.old.limit → Enters self.old self.new result (object, offset) }
+        ensures full { IsErr result ↔ ((slot_of self.old.slots (object, offset) ≡ None) × (self.old.limit ≤ pair_count self.old.slots)) }
         ensures unchanged { OnErr result (self.new ≡ self.old) }
     {
         match self.find((object, offset)) {
@@ -103,14 +105,16 @@ impl AwayTable {
     /// The pair that stands in the slot whose word is `w`; `None` exactly where `w` is the word of no
     /// slot that holds one.
     pub fn read(&self, w: u64) -> Option<(u64, i64)>
-        ensures slot { (k : ℕ) → w ≡ word_of k → result ≡ pair_in self.now k }
+        ensures slot { (k : ℕ) → w ≡ word_of k → result ≡ pair_in self.now.slots k }
         ensures word { IsSome result → (k : ℕ) × (w ≡ word_of k) }
+        ensures interned { IsInterned self.now.slots }
     {
+        let slots = self.slots.as_slice();
         let distance = w.checked_sub(FIRST_WORD)?;
         if distance % 16 != 0 {
             return None;
         }
-        match self.slots.get((distance / 16) as usize) {
+        match slots.get((distance / 16) as usize) {
             Some(pair) => *pair,
             None => None,
         }
@@ -118,7 +122,7 @@ impl AwayTable {
 
     /// Frees the slots that hold a pair of `object`, and no other.
     pub fn forget(&mut self, object: u64)
-        ensures { self.new ≡ without object self.old }
+        ensures { self.new ≡ record self.old { slots = without object self.old.slots } }
     {
         if !mark(self.marks.as_slice(), object) {
             return;
@@ -131,7 +135,7 @@ impl AwayTable {
 
     /// Frees every slot, which gives the state that `new` gave, in the memory that the table has.
     pub fn clear(&mut self)
-        ensures { self.new ≡ replicate (length self.old) None }
+        ensures { self.new ≡ record self.old { slots = [] } }
     {
         self.slots.clear();
         self.free.clear();

@@ -1,19 +1,32 @@
-use Rattle.std.proofs.Common.{length, sym, ap, ◌∙◌}
-use Rattle.ob_away.specs.Slots.{Slots, free_slot}
-use Rattle.ob_away.specs.Kept.{free_below}
-use Rattle.ob_away.proofs.Padded.{free_slot-padded}
-use Rattle.ob_away.proofs.FreeList.{free_slot-empty, IfNone-map}
+use Rattle.std.proofs.Common.{◌≡◌, None, Some, arith, sym, ap, ◌∙◌}
+use Rattle.ob_away.specs.Slots.{vacant}
+use Rattle.ob_away.proofs.FreeList.{vacant-empty, IfNone-from}
+use Rattle.ob_away.proofs.Vacant.{pair_count-vacant, extended-count, extended-put, extended-listed, IfSome-map}
 use Rattle.ob_away.proofs.free.claim.Goals as goal
 
-pub returns-in-Some-clause-slot : goal.returns-in-Some-clause-slot
-returns-in-Some-clause-slot c = sym (free_slot-padded c.args.limit c.args.slots.now.items c.in-Some.slot (sym (c.in-Some.ensures.slot ∙ ap free_slot c.deref.ensures.value)))
+pub returns-in-Some-clause-count : goal.returns-in-Some-clause-count
+returns-in-Some-clause-count c =
+    let found : vacant c.args.slots.now.items ≡ Some c.in-Some.slot = sym (c.in-Some.ensures.slot ∙ ap vacant c.deref.ensures.value) in
+    omega (arith, pair_count-vacant c.args.slots.now.items c.in-Some.slot found, c.requires.within)
 
-pub extend-requires-clause-used : goal.extend-requires-clause-used
-extend-requires-clause-used c = free_slot-empty c.args.slots.now.items (sym (c.in_default.ensures.slot ∙ ap free_slot c.deref.ensures.value))
+pub returns-clause-count : goal.returns-clause-count
+returns-clause-count c =
+    let none : vacant c.args.slots.now.items ≡ None = sym (c.in_default.ensures.slot ∙ ap vacant c.deref.ensures.value) in
+    extended-count c.args.limit c.args.slots.now.items c.extend.new.slots.items none c.extend.result c.extend.ensures.slot
 
-pub returns-clause-none : goal.returns-clause-none
-returns-clause-none c =
-    let used = free_slot-empty c.args.slots.now.items (sym (c.in_default.ensures.slot ∙ ap free_slot c.deref.ensures.value)) in
-    IfNone-map c.extend.result
-    (λ same. c.in_default.ensures.none ∙ sym used ∙ sym (ap (λ (slots : Slots). free_below slots (length slots)) same))
-    c.extend.ensures.none
+pub returns-clause-put : goal.returns-clause-put
+returns-clause-put c =
+    let none : vacant c.args.slots.now.items ≡ None = sym (c.in_default.ensures.slot ∙ ap vacant c.deref.ensures.value) in
+    extended-put c.args.limit c.args.slots.now.items c.extend.new.slots.items none c.extend.result c.extend.ensures.slot c.extend.ensures.slots
+
+pub returns-clause-listed : goal.returns-clause-listed
+returns-clause-listed c =
+    let none : vacant c.args.slots.now.items ≡ None = sym (c.in_default.ensures.slot ∙ ap vacant c.deref.ensures.value) in
+    IfSome-map _ _ c.extend.result
+    (λ slot used pair. c.in_default.ensures.none ∙ sym (used pair))
+    (extended-listed c.args.limit c.args.slots.now.items c.extend.new.slots.items none c.extend.result c.extend.ensures.slot c.extend.ensures.slots)
+
+pub returns-clause-unlisted : goal.returns-clause-unlisted
+returns-clause-unlisted c =
+    let none : vacant c.args.slots.now.items ≡ None = sym (c.in_default.ensures.slot ∙ ap vacant c.deref.ensures.value) in
+    IfNone-from c.extend.result (c.in_default.ensures.none ∙ sym (vacant-empty c.args.slots.now.items none))

@@ -1,20 +1,19 @@
 use Rattle.std.proofs.Common.{◌≡◌, ◌<◌, length, set, Some, None, Ok, true, arith, ap, sym, ◌∙◌}
 use Rattle.std.proofs.lemmas.List.{length-set}
-use Rattle.ob_away.specs.Slots.{Slots, slot_of, free_slot}
-use Rattle.ob_away.specs.Kept.{IsIndexed, mark_of}
-use Rattle.ob_away.proofs.Changes.{pair_in-same, slot_of-same, IsInterned-same, IsIndexed-same, IsMarked-same, IsInterned-entered, IsIndexed-entered, IsMarked-entered, padded-entered, mark_of-below}
-use Rattle.ob_away.proofs.FreeList.{IfSome-at}
-use Rattle.ob_away.proofs.Padded.{slot_of-padded}
+use Rattle.ob_away.specs.Slots.{Descriptors, Slots, slot_of, word_of}
+use Rattle.ob_away.specs.Kept.{IsIndexed, mark_of, free_below}
+use Rattle.ob_away.proofs.Changes.{IsInterned-same, IsIndexed-same, IsMarked-same, IsInterned-entered, IsIndexed-entered, IsMarked-entered, mark_of-below}
+use Rattle.ob_away.proofs.Vacant.{slot_of-same}
 use Rattle.ob_away.proofs.table.AwayTable.enter.Goals as goal
 
 pub invariant_of-self : goal.invariant_of-self
 invariant_of-self c =
-    let same = pair_in-same c.self.inside.limit c.self.inside.slots.items c.claim.new.slots.items c.claim.ensures.kept in
+    let same = c.claim.ensures.kept in
     record {
       within = c.claim.ensures.within;
       interned = IsInterned-same c.self.inside.slots.items c.claim.new.slots.items same c.self.invariant.interned;
       indexed = IsIndexed-same c.self.inside.index c.self.inside.slots.items c.claim.new.slots.items same c.self.invariant.indexed;
-      listed = c.in_default.ensures.none;
+      listed = c.in_default.ensures.unlisted ∙ ap (λ (xs : Slots). free_below xs (length xs)) (sym c.in_default.ensures.none);
       marked = IsMarked-same c.self.inside.marks.items c.self.inside.slots.items c.claim.new.slots.items same c.self.invariant.marked;
       marks_long = c.self.invariant.marks_long;
       roomy = c.self.invariant.roomy;
@@ -24,31 +23,27 @@ invariant_of-self c =
 
 pub note-requires-clause-indexed : goal.note-requires-clause-indexed
 note-requires-clause-indexed c =
-    let same = pair_in-same c.self.inside.limit c.self.inside.slots.items c.claim.new.slots.items c.claim.ensures.kept in
+    let same = c.claim.ensures.kept in
     rw c.as_slice.ensures.value (IsIndexed-same c.self.inside.index c.self.inside.slots.items c.claim.new.slots.items same c.self.invariant.indexed)
 
 pub note-requires-clause-distinct : goal.note-requires-clause-distinct
 note-requires-clause-distinct c =
-    let same = pair_in-same c.self.inside.limit c.self.inside.slots.items c.claim.new.slots.items c.claim.ensures.kept in
+    let same = c.claim.ensures.kept in
     rw c.as_slice.ensures.value (IsInterned-same c.self.inside.slots.items c.claim.new.slots.items same c.self.invariant.interned)
 
 pub note-requires-clause-absent : goal.note-requires-clause-absent
 note-requires-clause-absent c =
     let absent : slot_of c.claim.new.slots.items c.args.pair ≡ None =
-    slot_of-same c.self.inside.limit c.self.inside.slots.items c.claim.new.slots.items c.args.pair c.claim.ensures.kept
-    ∙ sym (slot_of-padded c.self.inside.limit c.self.inside.slots.items c.args.pair)
-    ∙ ap (λ (xs : Slots). slot_of xs c.args.pair) c.self.view_is
-    ∙ c.requires in
+    slot_of-same c.self.inside.slots.items c.claim.new.slots.items c.args.pair c.claim.ensures.kept
+    (ap (λ (table : Descriptors). slot_of table.slots c.args.pair) c.self.view_is ∙ c.requires) in
     rw c.as_slice.ensures.value absent
 
 pub invariant_of-self-2 : goal.invariant_of-self-2
 invariant_of-self-2 c =
-    let same = pair_in-same c.self.inside.limit c.self.inside.slots.items c.claim.new.slots.items c.claim.ensures.kept in
+    let same = c.claim.ensures.kept in
     let absent : slot_of c.claim.new.slots.items c.args.pair ≡ None =
-    slot_of-same c.self.inside.limit c.self.inside.slots.items c.claim.new.slots.items c.args.pair c.claim.ensures.kept
-    ∙ sym (slot_of-padded c.self.inside.limit c.self.inside.slots.items c.args.pair)
-    ∙ ap (λ (xs : Slots). slot_of xs c.args.pair) c.self.view_is
-    ∙ c.requires in
+    slot_of-same c.self.inside.slots.items c.claim.new.slots.items c.args.pair c.claim.ensures.kept
+    (ap (λ (table : Descriptors). slot_of table.slots c.args.pair) c.self.view_is ∙ c.requires) in
     let indexed : IsIndexed c.note.new.index c.claim.new.slots.items = rw (← c.as_slice.ensures.value) c.note.ensures.indexed in
     let long : length (set c.claim.new.slots.items c.in-Some.slot (Some c.args.pair)) ≡ length c.claim.new.slots.items = length-set c.claim.new.slots.items c.in-Some.slot (Some c.args.pair) in
     let long_marks : length (set c.self.inside.marks.items (mark_of c.args.pair.0) true) ≡ length c.self.inside.marks.items = length-set c.self.inside.marks.items (mark_of c.args.pair.0) true in
@@ -67,9 +62,8 @@ invariant_of-self-2 c =
 
 pub returns-clause-entered : goal.returns-clause-entered
 returns-clause-entered c =
-    let free : free_slot c.args.self.now ≡ Some c.in-Some.slot = ap free_slot (sym c.self.view_is) ∙ sym c.in-Some.ensures.slot in
-    IfSome-at _ (free_slot c.args.self.now) c.in-Some.slot free (
-      ap Ok c.word_of.ensures,
-      padded-entered c.self.inside.limit c.claim.new.slots.items c.in-Some.slot c.args.pair c.in-Some.ensures.inside
-          ∙ ap (λ (xs : Slots). set xs c.in-Some.slot (Some c.args.pair)) (c.claim.ensures.kept ∙ c.self.view_is),
-    )
+    let table : Slots → Descriptors = λ xs. record { limit = c.self.inside.limit; slots = xs } in
+    rw (← c.self.view_is) (λ room. record {
+      word = ap Ok (c.word_of.ensures ∙ ap word_of c.in-Some.ensures.slot);
+      slots = ap table (c.in-Some.ensures.put c.args.pair);
+    })

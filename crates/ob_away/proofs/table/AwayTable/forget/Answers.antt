@@ -1,8 +1,8 @@
 use Rattle.std.proofs.Common.{◌≡◌, ◌<◌, ℕ, Some, Bool, List, length, false, get_or, ap, sym, ◌∙◌, arith}
 use Rattle.std.proofs.lemmas.List.{length-map, length-set}
-use Rattle.ob_away.specs.Slots.{Slots, Pair, without, pair_in}
-use Rattle.ob_away.specs.Kept.{mark_of, free_below, padded}
-use Rattle.ob_away.proofs.Changes.{without-unmarked, without-padded, IsInterned-without, IsIndexed-without, IsMarked-without, mark_of-below}
+use Rattle.ob_away.specs.Slots.{Descriptors, Slots, Pair, without, pair_in}
+use Rattle.ob_away.specs.Kept.{mark_of, free_below}
+use Rattle.ob_away.proofs.Changes.{without-unmarked, IsInterned-without, IsIndexed-without, IsMarked-without, mark_of-below}
 use Rattle.ob_away.proofs.table.AwayTable.forget.Goals as goal
 
 pub returns-then-not-mark : goal.returns-then-not-mark
@@ -10,10 +10,8 @@ returns-then-not-mark c =
     let unmarked : get_or c.self.inside.marks.items (mark_of c.args.object) false ≡ false =
     ap (λ (marks : List Bool). get_or marks (mark_of c.args.object) false) (sym c.as_slice.ensures.value) ∙ sym c.mark.ensures ∙ c.if-not-mark.true in
     let none = without-unmarked c.self.inside.marks.items c.args.object c.self.inside.slots.items c.self.invariant.marked unmarked in
-    sym c.self.view_is
-    ∙ ap (padded c.self.inside.limit) (sym none)
-    ∙ sym (without-padded c.self.inside.limit c.args.object c.self.inside.slots.items)
-    ∙ ap (without c.args.object) c.self.view_is
+    let table : Slots → Descriptors = λ xs. record { limit = c.self.inside.limit; slots = xs } in
+    rw (← c.self.view_is) (ap table (sym none))
 
 pub invariant_of-self : goal.invariant_of-self
 invariant_of-self c =
@@ -35,6 +33,5 @@ invariant_of-self c =
 
 pub returns : goal.returns
 returns c =
-    ap (padded c.self.inside.limit) c.free_slots_of.ensures.slots
-    ∙ sym (without-padded c.self.inside.limit c.args.object c.self.inside.slots.items)
-    ∙ ap (without c.args.object) c.self.view_is
+    let table : Slots → Descriptors = λ xs. record { limit = c.self.inside.limit; slots = xs } in
+    rw (← c.self.view_is) (ap table c.free_slots_of.ensures.slots)

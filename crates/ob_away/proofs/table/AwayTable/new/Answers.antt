@@ -1,6 +1,7 @@
 use Rattle.std.proofs.Common.{length, ap, sym, ◌∙◌, arith}
 use Rattle.std.proofs.lemmas.Grind.{common_steps}
-use Rattle.ob_away.proofs.Changes.{IsInterned-none, IsIndexed-none, IsMarked-none, padded-none, free_below-none}
+use Rattle.ob_away.specs.Slots.{Descriptors, Slots}
+use Rattle.ob_away.proofs.Changes.{IsInterned-none, IsIndexed-none, IsMarked-none, free_below-none}
 use Rattle.ob_away.proofs.table.AwayTable.new.Goals as goal
 
 pub invariant_of-result : goal.invariant_of-result
@@ -19,4 +20,6 @@ invariant_of-result c =
     }
 
 pub returns : goal.returns
-returns c = padded-none c.args.limit c.in_ok-with_capacity.field-0.items c.in_ok-with_capacity.ensures.items
+returns c =
+    let table : Slots → Descriptors = λ xs. record { limit = c.args.limit; slots = xs } in
+    ap table c.in_ok-with_capacity.ensures.items
