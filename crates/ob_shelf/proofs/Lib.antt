@@ -1,0 +1,4 @@
+pub mod Order
+pub mod FirstGap
+pub mod Edits
+pub mod Taken
