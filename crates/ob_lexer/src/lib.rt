@@ -1,0 +1,2 @@
+//! The lexer: a source text to its tokens, or to the first fault.
+#![tactic(auto)]
