@@ -1,2 +1,7 @@
 //! The lexer: a source text to its tokens, or to the first fault.
 #![tactic(auto)]
+
+mod bytes;
+mod names;
+mod signs;
+mod taken;

@@ -2,13 +2,10 @@
 use Rattle.std.specs.Prelude.{◌≡◌, ℕ, ℤ, pos, ◌+◌, ◌-◌, ◌*◌, ◌^◌, ◌≤◌, ◌⊎◌, List, [], ◌∷◌, ◌++◌, length, Bool, nat_le, ◌==◌, ◌||◌, Option, Some, None, IsTrue, codes, Contains, find, if◌then◌else◌}
 use Rattle.std.specs.List.{list_all}
 use Rattle.ob_tree.specs.Bytes.{is_digit, is_nonzero_digit, is_octal_digit, is_hex_digit, is_name_byte, begins_with}
+use Rattle.ob_tree.specs.declared.constants.Base.{Base}
+use Rattle.ob_tree.specs.declared.constants.Suffix.{Suffix}
 use Rattle.ob_words.specs.declared.types.IntType.{IntType}
 use Rattle.ob_words.specs.declared.types.IntType.TheVariants.{Int, UInt, Long, ULong, LLong, ULLong}
-
-pub data Base : Type 0 where
-  Decimal : Base
-  Octal : Base
-  Hexadecimal : Base
 
 abbrev pub base_number : Base → ℕ
 base_number Base.Decimal = 10
@@ -37,15 +34,6 @@ IsDigits Base.Octal text digits =
     (text ≡ digits) × IsTrue (begins_with (λ c. c == 48) digits) × IsTrue (list_all is_octal_digit digits)
 IsDigits Base.Hexadecimal text digits =
     ((text ≡ codes "0x" ++ digits) ⊎ (text ≡ codes "0X" ++ digits)) × IsTrue (begins_with is_hex_digit digits) × IsTrue (list_all is_hex_digit digits)
-
--- what a suffix says: unsigned or not, and nothing, `l` or `ll`
-pub data Suffix : Type 0 where
-  Plain : Suffix
-  U : Suffix
-  L : Suffix
-  UL : Suffix
-  LL : Suffix
-  ULL : Suffix
 
 -- The integer suffixes: `u` or `U`, and `l`, `L`, `ll` or `LL`, each at most once and in either order.
 -- No suffix in the table begins another that stands before it.

@@ -1,0 +1,110 @@
+-- The piece or the fault at a place as a function of the bytes from there on, by what the first of them is.
+use Rattle.std.specs.Prelude.{◌≡◌, ℕ, suc, ◌+◌, ◌-◌, ◌^◌, pos, List, [], ◌∷◌, ◌++◌, length, take, drop, map, Bool, true, false, not, nat_lt, nat_le, ◌==◌, ◌||◌, ◌&&◌, Option, Some, None, Result, Ok, Err, codes, find, is_some, if◌then◌else◌, IsOk}
+use Rattle.std.specs.List.{prefix_len, list_all, list_any}
+use Rattle.std.specs.Str.{bytes_eq}
+use Rattle.ob_tree.specs.Bytes.{is_white, is_letter, is_digit, is_octal_digit, is_hex_digit, is_name_byte, is_blank, begins_with, ends_line}
+use Rattle.ob_tree.specs.Words.{word_text}
+use Rattle.ob_tree.specs.Signs.{sign_text, begins_comment}
+use Rattle.ob_tree.specs.Constants.{number, base_number, suffixes, type_of}
+use Rattle.ob_tree.specs.Characters.{Character, escape_at, characters, byte_of, value_of}
+use Rattle.ob_tree.specs.declared.tokens.TokenKind.{TokenKind}
+use Rattle.ob_tree.specs.declared.tokens.TokenKind.TheVariants as kind
+use Rattle.ob_tree.specs.declared.tokens.Keyword.{Keyword}
+use Rattle.ob_tree.specs.declared.tokens.Keyword.TheVariants as word
+use Rattle.ob_tree.specs.declared.tokens.Sign.{Sign}
+use Rattle.ob_tree.specs.declared.tokens.Sign.TheVariants as sign
+use Rattle.ob_tree.specs.declared.constants.Base.{Base}
+use Rattle.ob_tree.specs.declared.constants.Suffix.{Suffix}
+use Rattle.ob_tree.specs.declared.faults.LexKind.{LexKind}
+use Rattle.ob_tree.specs.declared.faults.LexKind.TheVariants as fault
+use Rattle.ob_words.specs.declared.types.IntType.{IntType}
+use Rattle.ob_words.specs.declared.types.IntType.TheVariants.{Int}
+use Rattle.ob_lexer.specs.declared.taken.Taken.{Taken}
+use Rattle.ob_lexer.specs.declared.taken.Refusal.{Refusal}
+use Rattle.ob_lexer.specs.declared.taken.Refusal.TheVariants as refusal
+use Rattle.ob_lexer.specs.declared.bytes.Class.{Class}
+
+-- what a scan of the code answers, where memory may run out
+abbrev pub Scans : Result Taken LexKind → Result Taken Refusal → Type 0
+Scans scanned (Ok taken) = scanned ≡ Ok taken
+Scans scanned (Err (refusal.Fault kind)) = scanned ≡ Err kind
+Scans scanned (Err refusal.NoMemory) = Unit {0}
+
+abbrev pub taken : Option TokenKind → ℕ → Result Taken LexKind
+taken piece n = Ok (record { kind = piece; length = n })
+
+-- classes of bytes
+
+abbrev pub has : Class → ℕ → Bool
+has Class.Letter c = is_letter c
+has Class.NameByte c = is_name_byte c
+has Class.Digit c = is_digit c
+has Class.OctalDigit c = is_octal_digit c
+has Class.HexDigit c = is_hex_digit c
+has Class.White c = is_white c
+has Class.Blank c = is_blank c
+has Class.OnLine c = not (c == 10)
+
+-- words and names
+
+abbrev pub words : List Keyword
+words =
+    word.Break ∷ ( word.Char ∷ ( word.Continue ∷ ( word.Do ∷ ( word.Else ∷ ( word.For ∷ (
+    word.If ∷ ( word.Int ∷ ( word.Long ∷ ( word.Return ∷ ( word.Short ∷ ( word.Signed ∷ (
+    word.Sizeof ∷ ( word.Static ∷ ( word.Struct ∷ ( word.Unsigned ∷ ( word.Void ∷ ( word.While ∷ (
+    word.Null ∷ ( word.Eof ∷ ( word.SizeT ∷ ( word.Auto ∷ ( word.Case ∷ ( word.Default ∷ (
+    word.Double ∷ ( word.Enum ∷ ( word.Extern ∷ ( word.Float ∷ ( word.Goto ∷ ( word.Inline ∷ (
+    word.Switch ∷ ( word.Typedef ∷ ( word.Union ∷ ( word.Volatile ∷ ( word.Bool ∷ ( word.Complex ∷ (
+    word.Imaginary ∷ ( [])))))))))))))))))))))))))))))))))))))
+
+abbrev pub is_word : List ℕ → Keyword → Bool
+is_word text keyword = bytes_eq (word_text keyword) text
+
+-- the reserved word of this text
+unfoldable pub keyword_of : List ℕ → Option Keyword
+keyword_of text = find (is_word text) words
+
+unfoldable pub is_qualifier : List ℕ → Bool
+is_qualifier text = bytes_eq text (codes "const") || (bytes_eq text (codes "register") || bytes_eq text (codes "restrict"))
+
+abbrev pub word_or_name : List ℕ → Option Keyword → Option TokenKind
+word_or_name text (Some keyword) = Some (kind.Word keyword)
+word_or_name text None = if is_qualifier text then None else Some (kind.Name text)
+
+abbrev pub name_kind : List ℕ → Option TokenKind
+name_kind text = word_or_name text (keyword_of text)
+
+unfoldable pub scan_name : List ℕ → Result Taken LexKind
+scan_name rest = let n = prefix_len is_name_byte rest in taken (name_kind (take n rest)) n
+
+-- punctuators, the longer ones first
+
+abbrev pub signs : List Sign
+signs =
+    sign.ShlAssign ∷ ( sign.ShrAssign ∷ ( sign.Arrow ∷ ( sign.PlusPlus ∷ ( sign.MinusMinus ∷ ( sign.Shl ∷ (
+    sign.Shr ∷ ( sign.Le ∷ ( sign.Ge ∷ ( sign.EqEq ∷ ( sign.NotEq ∷ ( sign.AndAnd ∷ (
+    sign.OrOr ∷ ( sign.StarAssign ∷ ( sign.SlashAssign ∷ ( sign.PercentAssign ∷ ( sign.PlusAssign ∷ ( sign.MinusAssign ∷ (
+    sign.AmpAssign ∷ ( sign.CaretAssign ∷ ( sign.BarAssign ∷ ( sign.OpenBracket ∷ ( sign.CloseBracket ∷ ( sign.OpenParen ∷ (
+    sign.CloseParen ∷ ( sign.OpenBrace ∷ ( sign.CloseBrace ∷ ( sign.Dot ∷ ( sign.Amp ∷ ( sign.Star ∷ (
+    sign.Plus ∷ ( sign.Minus ∷ ( sign.Tilde ∷ ( sign.Not ∷ ( sign.Slash ∷ ( sign.Percent ∷ (
+    sign.Lt ∷ ( sign.Gt ∷ ( sign.Caret ∷ ( sign.Bar ∷ ( sign.Question ∷ ( sign.Colon ∷ (
+    sign.Semi ∷ ( sign.Assign ∷ ( sign.Comma ∷ ( [])))))))))))))))))))))))))))))))))))))))))))))
+
+abbrev pub begins_sign : List ℕ → Sign → Bool
+begins_sign rest s = bytes_eq (sign_text s) (take (length (sign_text s)) rest)
+
+-- the longest punctuator that the bytes begin with
+unfoldable pub sign_at : List ℕ → Option Sign
+sign_at rest = find (begins_sign rest) signs
+
+-- a `.` that a digit follows
+abbrev pub is_fraction : List ℕ → Bool
+is_fraction [] = false
+is_fraction (c ∷ cs) = (c == 46) && begins_with is_digit cs
+
+abbrev pub sign_piece : Option Sign → Result Taken LexKind
+sign_piece None = Err fault.Stray
+sign_piece (Some s) = taken (Some (kind.Sign s)) (length (sign_text s))
+
+unfoldable pub scan_sign : List ℕ → Result Taken LexKind
+scan_sign rest = if is_fraction rest then Err fault.Stray else sign_piece (sign_at rest)
