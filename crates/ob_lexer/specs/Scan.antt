@@ -108,3 +108,38 @@ sign_piece (Some s) = taken (Some (kind.Sign s)) (length (sign_text s))
 
 unfoldable pub scan_sign : List ℕ → Result Taken LexKind
 scan_sign rest = if is_fraction rest then Err fault.Stray else sign_piece (sign_at rest)
+
+-- integer constants
+
+-- `0x` or `0X` and a hexadecimal digit
+abbrev pub is_hex_prefix : List ℕ → Bool
+is_hex_prefix (a ∷ x ∷ d ∷ rest) = (a == 48) && (((x == 120) || (x == 88)) && is_hex_digit d)
+is_hex_prefix rest = false
+
+unfoldable pub base_at : List ℕ → Base
+base_at rest = if is_hex_prefix rest then Base.Hexadecimal else (if begins_with (λ c. c == 48) rest then Base.Octal else Base.Decimal)
+
+abbrev pub prefix_of : Base → ℕ
+prefix_of Base.Decimal = 0
+prefix_of Base.Octal = 0
+prefix_of Base.Hexadecimal = 2
+
+abbrev pub class_of : Base → Class
+class_of Base.Decimal = Class.Digit
+class_of Base.Octal = Class.OctalDigit
+class_of Base.Hexadecimal = Class.HexDigit
+
+-- the digits of the constant that begins here, without their prefix
+unfoldable pub digits_at : List ℕ → List ℕ
+digits_at rest = let tail = drop (prefix_of (base_at rest)) rest in take (prefix_len (has (class_of (base_at rest))) tail) tail
+
+-- what stands behind the digits
+abbrev pub behind_digits : List ℕ → List ℕ
+behind_digits rest = drop (prefix_of (base_at rest) + length (digits_at rest)) rest
+
+abbrev pub begins_ending : List ℕ → List ℕ × Suffix → Bool
+begins_ending rest row = bytes_eq row.0 (take (length row.0) rest)
+
+-- the longest suffix that the bytes begin with
+unfoldable pub ending_at : List ℕ → Option (List ℕ × Suffix)
+ending_at rest = find (begins_ending rest) suffixes

@@ -3,5 +3,6 @@
 
 mod bytes;
 mod names;
+mod numbers;
 mod signs;
 mod taken;
