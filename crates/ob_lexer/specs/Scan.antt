@@ -143,3 +143,21 @@ begins_ending rest row = bytes_eq row.0 (take (length row.0) rest)
 -- the longest suffix that the bytes begin with
 unfoldable pub ending_at : List ℕ → Option (List ℕ × Suffix)
 ending_at rest = find (begins_ending rest) suffixes
+
+-- the value of the constant that begins here
+abbrev pub value_at : List ℕ → ℕ
+value_at rest = number (base_number (base_at rest)) (digits_at rest)
+
+-- a constant with this suffix, whose value has this type or none
+abbrev pub typed : List ℕ → List ℕ → Option IntType → Result Taken LexKind
+typed rest ending None = Err fault.Wide
+typed rest ending (Some ty) =
+    if begins_with (λ c. is_name_byte c || (c == 46)) (drop (length ending) (behind_digits rest)) then Err fault.Stray
+    else taken (Some (kind.Number (pos (value_at rest)) ty)) (prefix_of (base_at rest) + length (digits_at rest) + length ending)
+
+abbrev pub with_ending : List ℕ → Option (List ℕ × Suffix) → Result Taken LexKind
+with_ending rest None = Err fault.Stray
+with_ending rest (Some row) = typed rest row.0 (type_of (base_at rest) row.1 (value_at rest))
+
+unfoldable pub scan_number : List ℕ → Result Taken LexKind
+scan_number rest = with_ending rest (ending_at (behind_digits rest))
