@@ -1,5 +1,5 @@
 -- The piece or the fault at a place as a function of the bytes from there on, by what the first of them is.
-use Rattle.std.specs.Prelude.{◌≡◌, ℕ, suc, ◌+◌, ◌-◌, ◌^◌, pos, List, [], ◌∷◌, ◌++◌, length, take, drop, map, Bool, true, false, not, nat_lt, nat_le, ◌==◌, ◌||◌, ◌&&◌, Option, Some, None, Result, Ok, Err, codes, find, is_some, if◌then◌else◌, IsOk}
+use Rattle.std.specs.Prelude.{◌≡◌, ℕ, suc, ◌+◌, ◌-◌, ◌^◌, pos, ℤ, List, [], ◌∷◌, ◌++◌, length, take, drop, map, Bool, true, false, not, nat_lt, nat_le, ◌==◌, ◌||◌, ◌&&◌, Option, Some, None, Result, Ok, Err, codes, find, is_some, option_and_then, if◌then◌else◌, IsOk}
 use Rattle.std.specs.List.{prefix_len, list_all, list_any}
 use Rattle.std.specs.Str.{bytes_eq}
 use Rattle.ob_tree.specs.Bytes.{is_white, is_letter, is_digit, is_octal_digit, is_hex_digit, is_name_byte, is_blank, begins_with, ends_line}
@@ -23,6 +23,8 @@ use Rattle.ob_lexer.specs.declared.taken.Taken.{Taken}
 use Rattle.ob_lexer.specs.declared.taken.Refusal.{Refusal}
 use Rattle.ob_lexer.specs.declared.taken.Refusal.TheVariants as refusal
 use Rattle.ob_lexer.specs.declared.bytes.Class.{Class}
+use Rattle.ob_lexer.specs.declared.quotes.Spelled.{Spelled}
+use Rattle.ob_lexer.specs.declared.quotes.Spelled.TheVariants as spelled
 
 -- what a scan of the code answers, where memory may run out
 abbrev pub Scans : Result Taken LexKind → Result Taken Refusal → Type 0
@@ -161,3 +163,67 @@ with_ending rest (Some row) = typed rest row.0 (type_of (base_at rest) row.1 (va
 
 unfoldable pub scan_number : List ℕ → Result Taken LexKind
 scan_number rest = with_ending rest (ending_at (behind_digits rest))
+
+-- character constants and string literals
+
+-- how many bytes stand before the quote that ends a literal; none where its line ends first
+abbrev pub enclosed_from : (at quote : ℕ) → (taken : Bool) → List ℕ → Option ℕ
+enclosed_from at quote escaped [] = None
+enclosed_from at quote escaped (c ∷ cs) =
+    if c == 10 then None
+    else (if not escaped && (c == quote) then Some at
+    else enclosed_from (at + 1) quote (not escaped && (c == 92)) cs)
+
+-- a character as the code keeps it
+abbrev pub spelled_of : Character → Spelled
+spelled_of (Character.Itself c) = spelled.Itself c
+spelled_of (Character.Escape v) = if nat_le v 255 then spelled.Escape v else spelled.Wide
+spelled_of Character.Unknown = spelled.Unknown
+
+-- the first character of a body, and how many bytes it has
+unfoldable pub first_character : List ℕ → Character × ℕ
+first_character [] = (Character.Unknown, 1)
+first_character (c ∷ cs) = if c == 92 then ((escape_at cs).0, 1 + (escape_at cs).1) else (Character.Itself c, 1)
+
+abbrev pub is_wide : Character → Bool
+is_wide (Character.Itself c) = false
+is_wide (Character.Escape v) = nat_lt 255 v
+is_wide Character.Unknown = false
+
+-- the bytes that characters stand for, behind those that were read before
+abbrev pub bytes_from : List ℕ → List Character → Option (List ℕ)
+bytes_from before [] = Some before
+bytes_from before (ch ∷ chs) = option_and_then (λ b. bytes_from (before ++ b ∷ []) chs) (byte_of ch)
+
+-- the value of the one character that there is
+abbrev pub only_value : List Character → Option ℤ
+only_value [] = None
+only_value (ch ∷ []) = value_of ch
+only_value (ch ∷ other ∷ chs) = None
+
+abbrev pub quote_fault : List Character → LexKind
+quote_fault chs = if list_any is_wide chs then fault.Wide else fault.Stray
+
+abbrev pub string_piece : ℕ → List Character → Option (List ℕ) → Result Taken LexKind
+string_piece n chs (Some bytes) = taken (Some (kind.Str bytes)) (n + 2)
+string_piece n chs None = Err (quote_fault chs)
+
+abbrev pub character_piece : ℕ → List Character → Option ℤ → Result Taken LexKind
+character_piece n chs (Some value) = taken (Some (kind.Number value Int)) (n + 2)
+character_piece n chs None = Err (quote_fault chs)
+
+abbrev pub string_of : List ℕ → Option ℕ → Result Taken LexKind
+string_of rest None = Err fault.Unclosed
+string_of rest (Some n) = let chs = characters (take n rest) in string_piece n chs (bytes_from [] chs)
+
+abbrev pub character_of : List ℕ → Option ℕ → Result Taken LexKind
+character_of rest None = Err fault.Unclosed
+character_of rest (Some n) = let chs = characters (take n rest) in character_piece n chs (only_value chs)
+
+-- the string literal whose first quote stands before these bytes
+unfoldable pub scan_string : List ℕ → Result Taken LexKind
+scan_string rest = string_of rest (enclosed_from 0 34 false rest)
+
+-- the character constant whose first quote stands before these bytes
+unfoldable pub scan_character : List ℕ → Result Taken LexKind
+scan_character rest = character_of rest (enclosed_from 0 39 false rest)

@@ -1,4 +1,4 @@
-ghost use Rattle.std.specs.Prelude.{◌≡◌, ◌≤◌, length};
+ghost use Rattle.std.specs.Prelude.{◌≡◌, ◌≤◌, length, drop};
 ghost use Rattle.std.specs.List.{prefix_len};
 ghost use Rattle.ob_tree.specs.Bytes.{is_within, is_letter, is_name_byte, is_digit, is_octal_digit, is_hex_digit, is_white, is_blank};
 ghost use Rattle.ob_lexer.specs.Scan.{has};
@@ -44,6 +44,17 @@ impl Class {
             }
         }
         bytes.len()
+    }
+}
+
+/// What is left without the first `n` bytes, or nothing where there are fewer.
+pub fn skip(bytes: &[u8], n: usize) -> &[u8]
+    ensures { result.now ≡ drop n bytes.now }
+{
+    if n <= bytes.len() {
+        &bytes[n..]
+    } else {
+        &bytes[bytes.len()..]
     }
 }
 

@@ -4,5 +4,6 @@
 mod bytes;
 mod names;
 mod numbers;
+mod quotes;
 mod signs;
 mod taken;

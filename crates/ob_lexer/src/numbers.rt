@@ -8,7 +8,7 @@ ghost use Rattle.ob_lexer.specs.Endings.{row_of};
 use ob_tree::{Base, LexKind, Suffix, TokenKind};
 use ob_words::IntType;
 
-use crate::bytes::Class;
+use crate::bytes::{Class, skip};
 use crate::taken::{Refusal, Taken};
 
 /// The suffixes of integer constants, the longer ones first.
@@ -239,24 +239,13 @@ pub fn scan_number(rest: &[u8]) -> Result<Taken, Refusal>
     let Some((value, ty)) = typed(constant.base, ending.suffix, constant.digits) else {
         return Err(Refusal::Fault(LexKind::Wide));
     };
-    if continues(behind(constant.behind, ending.text)) {
+    if continues(skip(constant.behind, ending.text.len())) {
         return Err(Refusal::Fault(LexKind::Stray));
     }
     Ok(Taken {
         kind: Some(number_token(value, ty)),
         length: prefix_of(constant.base) + constant.digits.len() + ending.text.len(),
     })
-}
-
-/// The bytes past as many as `piece` has.
-fn behind<'a>(bytes: &'a [u8], piece: &[u8]) -> &'a [u8]
-    ensures { result.now ≡ drop (length piece.now) bytes.now }
-{
-    if piece.len() <= bytes.len() {
-        &bytes[piece.len()..]
-    } else {
-        &bytes[bytes.len()..]
-    }
 }
 
 fn number_token(value: u64, ty: IntType) -> TokenKind

@@ -40,10 +40,11 @@ abbrev pub simple : Option ℕ → Character × ℕ
 simple (Some v) = (Character.Escape v, 1)
 simple None = (Character.Unknown, 1)
 
--- a numeric escape sequence, or none where there is no digit
+-- a numeric escape sequence, which has `sign` bytes before its digits, or none where there is no digit
 abbrev pub numeric : (base : ℕ) (sign : ℕ) → List ℕ → Character × ℕ
-numeric base sign [] = (Character.Unknown, 1)
-numeric base sign (d ∷ ds) = (Character.Escape (number base (d ∷ ds)), sign + length (d ∷ ds))
+numeric base sign digits =
+    if length digits == 0 then (Character.Unknown, 1)
+    else (Character.Escape (number base digits), sign + length digits)
 
 -- The character that a backslash begins, and how many of the bytes behind the backslash are its own.
 -- An octal escape sequence has one to three octal digits, a hexadecimal one has `x` and at least one
