@@ -1,8 +1,10 @@
 -- The piece or the fault at a place as a function of the bytes from there on, by what the first of them is.
-use Rattle.std.specs.Prelude.{◌≡◌, ℕ, suc, ◌+◌, ◌-◌, ◌^◌, pos, ℤ, List, [], ◌∷◌, ◌++◌, length, take, drop, map, Bool, true, false, not, nat_lt, nat_le, ◌==◌, ◌||◌, ◌&&◌, Option, Some, None, Result, Ok, Err, codes, find, is_some, option_and_then, if◌then◌else◌, IsOk}
+use Rattle.std.specs.Prelude.{◌≡◌, ℕ, suc, ◌+◌, ◌-◌, ◌^◌, pos, ℤ, List, [], ◌∷◌, ◌++◌, length, take, drop, map, Bool, true, false, not, nat_lt, nat_le, ◌==◌, ◌||◌, ◌&&◌, Option, Some, None, Result, Ok, Err, codes, find, is_some, zero, option_and_then, option_map, if◌then◌else◌, IsOk}
+use Rattle.std.specs.Option.{option_or}
 use Rattle.std.specs.List.{prefix_len, list_all, list_any}
 use Rattle.std.specs.Str.{bytes_eq}
 use Rattle.ob_tree.specs.Bytes.{is_white, is_letter, is_digit, is_octal_digit, is_hex_digit, is_name_byte, is_blank, begins_with, ends_line}
+use Rattle.ob_tree.specs.Spaces.{is_one_line}
 use Rattle.ob_tree.specs.Words.{word_text}
 use Rattle.ob_tree.specs.Signs.{sign_text, begins_comment}
 use Rattle.ob_tree.specs.Constants.{number, base_number, suffixes, type_of}
@@ -23,6 +25,7 @@ use Rattle.ob_lexer.specs.declared.taken.Taken.{Taken}
 use Rattle.ob_lexer.specs.declared.taken.Refusal.{Refusal}
 use Rattle.ob_lexer.specs.declared.taken.Refusal.TheVariants as refusal
 use Rattle.ob_lexer.specs.declared.bytes.Class.{Class}
+use Rattle.ob_lexer.specs.declared.scanner.Sort.{Sort}
 use Rattle.ob_lexer.specs.declared.quotes.Spelled.{Spelled}
 use Rattle.ob_lexer.specs.declared.quotes.Spelled.TheVariants as spelled
 
@@ -227,3 +230,104 @@ scan_string rest = string_of rest (enclosed_from 0 34 false rest)
 -- the character constant whose first quote stands before these bytes
 unfoldable pub scan_character : List ℕ → Result Taken LexKind
 scan_character rest = character_of rest (enclosed_from 0 39 false rest)
+
+-- comments and include lines
+
+-- how many bytes stand before the first `*/`
+abbrev pub block_end_from : (at : ℕ) → List ℕ → Option ℕ
+block_end_from at [] = None
+block_end_from at (c ∷ cs) = if (c == 42) && begins_with (λ d. d == 47) cs then Some at else block_end_from (at + 1) cs
+
+-- how many bytes the comment has that begins here; none where it doesn't end
+unfoldable pub comment_length : List ℕ → Option ℕ
+comment_length (a ∷ b ∷ rest) =
+    if b == 47 then Some (2 + prefix_len (has Class.OnLine) rest) else option_map (λ n. n + 4) (block_end_from 0 rest)
+comment_length rest = None
+
+abbrev pub comment_piece : Option ℕ → Result Taken LexKind
+comment_piece None = Err fault.Unclosed
+comment_piece (Some n) = taken None n
+
+abbrev pub scan_comment : List ℕ → Result Taken LexKind
+scan_comment rest = comment_piece (comment_length rest)
+
+-- what stands behind a text with which the bytes begin
+unfoldable pub strip : List ℕ → List ℕ → Option (List ℕ)
+strip text rest = if bytes_eq text (take (length text) rest) then Some (drop (length text) rest) else None
+
+abbrev pub skip_blanks : List ℕ → List ℕ
+skip_blanks rest = drop (prefix_len is_blank rest) rest
+
+-- what stands behind a header
+unfoldable pub strip_header : List ℕ → Option (List ℕ)
+strip_header rest =
+    option_or (strip (codes "<stdio.h>") rest)
+    (option_or (strip (codes "<stdlib.h>") rest)
+    (option_or (strip (codes "<stddef.h>") rest) (strip (codes "<string.h>") rest)))
+
+abbrev pub one_line_length : List ℕ → Option ℕ → ℕ
+one_line_length rest None = 0
+one_line_length rest (Some n) = if is_one_line (take n rest) then n else 0
+
+-- how many bytes the space, the tab or the comment on one line has that begins here; 0 where none does
+unfoldable pub filler_length : List ℕ → ℕ
+filler_length [] = 0
+filler_length (c ∷ cs) =
+    if is_blank c then 1 else (if begins_comment (c ∷ cs) then one_line_length (c ∷ cs) (comment_length (c ∷ cs)) else 0)
+
+-- a carriage return at a line's end
+abbrev pub is_return : List ℕ → Bool
+is_return [] = false
+is_return (c ∷ cs) = (c == 13) && ends_line cs
+
+-- What stands at the end of the line to which fillers and an optional carriage return lead. The first
+-- `own` bytes belong to a filler that began before them.
+abbrev pub line_end_from : (own : ℕ) → List ℕ → Option (List ℕ)
+line_end_from own [] = Some []
+line_end_from (suc own) (c ∷ cs) = line_end_from own cs
+line_end_from zero (c ∷ cs) =
+    if ends_line (c ∷ cs) then Some (c ∷ cs)
+    else (if is_return (c ∷ cs) then Some cs
+    else (if filler_length (c ∷ cs) == 0 then None else line_end_from (filler_length (c ∷ cs) - 1) cs))
+
+-- what stands behind the include line that begins here
+unfoldable pub include_end : List ℕ → Option (List ℕ)
+include_end rest =
+    option_and_then (λ r. option_and_then (line_end_from 0) (strip_header (skip_blanks r)))
+    (strip (codes "include") (skip_blanks (drop 1 rest)))
+
+abbrev pub include_piece : List ℕ → Option (List ℕ) → Result Taken LexKind
+include_piece rest None = Err fault.Stray
+include_piece rest (Some after) = taken None (length rest - length after)
+
+abbrev pub scan_include : Bool → List ℕ → Result Taken LexKind
+scan_include fresh rest = if fresh then include_piece rest (include_end rest) else Err fault.Stray
+
+-- all kinds of piece
+
+-- what can begin here, by the first byte, or two for a comment
+unfoldable pub sort_of : List ℕ → Sort
+sort_of [] = Sort.Sign
+sort_of (c ∷ cs) =
+    if is_white c then Sort.White
+    else (if is_letter c then Sort.Name
+    else (if is_digit c then Sort.Number
+    else (if c == 34 then Sort.String
+    else (if c == 39 then Sort.Character
+    else (if c == 35 then Sort.Include
+    else (if begins_comment (c ∷ cs) then Sort.Comment
+    else Sort.Sign))))))
+
+abbrev pub scan_sort : Sort → (fresh : Bool) → List ℕ → Result Taken LexKind
+scan_sort Sort.White fresh rest = taken None 1
+scan_sort Sort.Name fresh rest = scan_name rest
+scan_sort Sort.Number fresh rest = scan_number rest
+scan_sort Sort.String fresh rest = scan_string (drop 1 rest)
+scan_sort Sort.Character fresh rest = scan_character (drop 1 rest)
+scan_sort Sort.Include fresh rest = scan_include fresh rest
+scan_sort Sort.Comment fresh rest = scan_comment rest
+scan_sort Sort.Sign fresh rest = scan_sign rest
+
+-- The piece or the fault here; `fresh` says that only spaces and tabs stand before on the line.
+abbrev pub scan : (fresh : Bool) → List ℕ → Result Taken LexKind
+scan fresh rest = scan_sort (sort_of rest) fresh rest

@@ -2,8 +2,11 @@
 #![tactic(auto)]
 
 mod bytes;
+mod comments;
+mod includes;
 mod names;
 mod numbers;
 mod quotes;
+mod scanner;
 mod signs;
 mod taken;
