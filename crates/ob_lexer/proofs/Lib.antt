@@ -1,3 +1,4 @@
 pub mod NumberLemmas
 pub mod QuoteLemmas
 pub mod IncludeLemmas
+pub mod Prefixes
