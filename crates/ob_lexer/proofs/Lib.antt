@@ -4,3 +4,6 @@ pub mod IncludeLemmas
 pub mod Prefixes
 pub mod Classes
 pub mod Sorts
+pub mod Taking
+pub mod Tables
+pub mod SignPieces
