@@ -7,3 +7,4 @@ pub mod Sorts
 pub mod Taking
 pub mod Tables
 pub mod SignPieces
+pub mod NamePieces
