@@ -8,3 +8,4 @@ pub mod Taking
 pub mod Tables
 pub mod SignPieces
 pub mod NamePieces
+pub mod CommentPieces
