@@ -9,3 +9,4 @@ pub mod Tables
 pub mod SignPieces
 pub mod NamePieces
 pub mod CommentPieces
+pub mod IncludePieces
