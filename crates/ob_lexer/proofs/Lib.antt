@@ -10,3 +10,4 @@ pub mod SignPieces
 pub mod NamePieces
 pub mod CommentPieces
 pub mod IncludePieces
+pub mod NumberPieces
