@@ -11,3 +11,4 @@ pub mod NamePieces
 pub mod CommentPieces
 pub mod IncludePieces
 pub mod NumberPieces
+pub mod QuotePieces
