@@ -12,3 +12,4 @@ pub mod CommentPieces
 pub mod IncludePieces
 pub mod NumberPieces
 pub mod QuotePieces
+pub mod Scanning

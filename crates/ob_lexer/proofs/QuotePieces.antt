@@ -184,3 +184,122 @@ fault-here q n cs i h o w = by (list_any is_wide (characters (take n cs))) refl
       by : (b : Bool) → list_any is_wide (characters (take n cs)) ≡ b → HasFault (q ∷ cs) (cond b fault.Wide fault.Stray)
       by true e = (closed, wide e)
       by false e = (closed, λ x. narrow e (w x))
+
+length-literal : (q : ℕ) (body t : List ℕ) → t ≡ q ∷ (body ++ q ∷ []) → length t ≡ length body + 2
+length-literal q body t e = omega (arith, ap length e, length-append body (q ∷ []))
+
+tail-literal : (q c : ℕ) (cs body t a : List ℕ) → t ≡ q ∷ (body ++ q ∷ []) → t ++ a ≡ c ∷ cs → cs ≡ body ++ q ∷ a
+tail-literal q c cs body t a e g =
+    let z : c ∷ cs ≡ q ∷ ((body ++ q ∷ []) ++ a) = sym g ∙ ap (λ u. u ++ a) e in
+    let y : cs ≡ (body ++ q ∷ []) ++ a = cc in
+    y ∙ append_assoc body (q ∷ []) a
+
+-- strings
+
+unclosed-string : (cs : List ℕ) → sort_of (34 ∷ cs) ≡ Sort.String → IsUnclosed (34 ∷ cs) → (h : IsOpenQuote (34 ∷ cs)) × (h.quote ≡ 34)
+unclosed-string cs e u = subst (λ s. UnclosedAs s (34 ∷ cs)) e (unclosed-sort (34 ∷ cs) u)
+
+wide-string : (cs : List ℕ) → sort_of (34 ∷ cs) ≡ Sort.String → IsWide (34 ∷ cs) → (h : IsWideQuote (34 ∷ cs)) × (h.quote ≡ 34)
+wide-string cs e u = subst (λ s. WideAs s (34 ∷ cs)) e (wide-sort (34 ∷ cs) u)
+
+right-string : (before cs : List ℕ) → sort_of (34 ∷ cs) ≡ Sort.String → IsRight before (34 ∷ cs) (scan_string cs)
+unfolding scan_string
+right-string before cs e = by (enclosed_from 0 34 false cs) refl
+    where
+      all : (t a : List ℕ) (p : Option TokenKind) → t ++ a ≡ 34 ∷ cs → IsPiece before t a p → (bytes : List ℕ) × IsString t bytes × (p ≡ Some (kind.Str bytes))
+      all t a p g h = sorted Sort.String before (34 ∷ cs) t a p e g h
+      body : (n : ℕ) → enclosed_from 0 34 false cs ≡ Some n → (t a bytes : List ℕ) → t ++ a ≡ 34 ∷ cs → IsString t bytes → (length t ≡ n + 2) × (bytes_from [] (characters (take n cs)) ≡ Some bytes)
+      body n f t a bytes g s =
+          let b = body-here 34 n cs s.body a (inr refl) f (tail-literal 34 34 cs s.body t a s.text_is g) s.inside in
+          ((let l = length-literal 34 s.body t s.text_is in omega (arith, l, b.0)),
+          ap (λ t. bytes_from [] (characters t)) b.1 ∙ bytes-here [] bytes (characters s.body) s.bytes_are)
+      best : (n : ℕ) → (f : enclosed_from 0 34 false cs ≡ Some n) → (bytes : List ℕ) → bytes_from [] (characters (take n cs)) ≡ Some bytes → Best before (34 ∷ cs) (n + 2) (Some (kind.Str bytes))
+      best n f bytes h =
+          let c = enclosed-some 0 n 34 false cs f in
+          let b = body-here 34 n cs c.body c.after (inr refl) f c.xs_is c.inside in
+          let r = bytes-some [] bytes (characters c.body) (ap (λ t. bytes_from [] (characters t)) (sym b.1) ∙ h) in
+          let l : length (34 ∷ (c.body ++ 34 ∷ [])) ≡ n + 2 = (let l = length-literal 34 c.body (34 ∷ (c.body ++ 34 ∷ [])) refl in omega (arith, l, b.0)) in
+          subst (λ n. Best before (34 ∷ cs) n (Some (kind.Str bytes))) l
+          (only before (34 ∷ cs) (34 ∷ (c.body ++ 34 ∷ [])) c.after (Some (kind.Str bytes)) (ap (λ (t : List ℕ). 34 ∷ t) (append_assoc c.body (34 ∷ []) c.after ∙ sym c.xs_is)) (omega arith)
+          (record { body = c.body; text_is = refl; inside = c.inside; bytes_are = r.bytes_are ∙ ap (λ t. map (λ (b : ℕ). Some b) t) (sym r.result_is) })
+          (λ u b p g q.
+            let w = all u b p g q in
+            let k = body n f u b w.0 g w.1 in
+            (k.0 ∙ sym l, w.2 ∙ ap (λ t. Some (kind.Str t)) (let z : Some w.0 ≡ Some bytes = sym k.1 ∙ h in let y : w.0 ≡ bytes = cc in y))))
+      piece : (n : ℕ) → enclosed_from 0 34 false cs ≡ Some n → (o : Option (List ℕ)) → bytes_from [] (characters (take n cs)) ≡ o → IsRight before (34 ∷ cs) (string_piece n (characters (take n cs)) o)
+      piece n f None h =
+          ((λ t a p g q. let w = all t a p g q in let z : None ≡ Some w.0 = sym h ∙ (body n f t a w.0 g w.1).1 in cc),
+          fault-here 34 n cs (inr refl) f (unclosed-string cs e) (wide-string cs e))
+      piece n f (Some bytes) h = best n f bytes h
+      by : (o : Option ℕ) → enclosed_from 0 34 false cs ≡ o → IsRight before (34 ∷ cs) (string_of cs o)
+      by None f =
+          ((λ t a p g q.
+            let w = all t a p g q in
+            let z : None ≡ Some (0 + length w.1.body) = sym f ∙ ap (enclosed_from 0 34 false) (tail-literal 34 34 cs w.1.body t a w.1.text_is g) ∙ enclosed-here 0 34 false w.1.body a refl w.1.inside in cc),
+          inr (open-here 34 cs (inr refl) f))
+      by (Some n) f = piece n f (bytes_from [] (characters (take n cs))) refl
+
+pub string-right : (before : List ℕ) (c : ℕ) (cs : List ℕ) → sort_of (c ∷ cs) ≡ Sort.String → IsRight before (c ∷ cs) (scan_string cs)
+string-right before c cs e =
+    let z : 34 ≡ c = sym (first-as Sort.String c cs e) in
+    subst (λ c. IsRight before (c ∷ cs) (scan_string cs)) z (right-string before cs (ap (λ c. sort_of (c ∷ cs)) z ∙ e))
+
+-- character constants
+
+unclosed-character : (cs : List ℕ) → sort_of (39 ∷ cs) ≡ Sort.Character → IsUnclosed (39 ∷ cs) → (h : IsOpenQuote (39 ∷ cs)) × (h.quote ≡ 39)
+unclosed-character cs e u = subst (λ s. UnclosedAs s (39 ∷ cs)) e (unclosed-sort (39 ∷ cs) u)
+
+wide-character : (cs : List ℕ) → sort_of (39 ∷ cs) ≡ Sort.Character → IsWide (39 ∷ cs) → (h : IsWideQuote (39 ∷ cs)) × (h.quote ≡ 39)
+wide-character cs e u = subst (λ s. WideAs s (39 ∷ cs)) e (wide-sort (39 ∷ cs) u)
+
+pub record One (chs : List Character) (value : ℤ) : Type 0 where
+  pub character : Character
+  pub chs_are : chs ≡ character ∷ []
+  pub value_is : value_of character ≡ Some value
+
+only-some : (chs : List Character) (value : ℤ) → only_value chs ≡ Some value → One chs value
+only-some [] value h = absurd (let z : None ≡ Some value = h in cc)
+only-some (ch ∷ []) value h = record { character = ch; chs_are = refl; value_is = h }
+only-some (ch ∷ other ∷ chs) value h = absurd (let z : None ≡ Some value = h in cc)
+
+right-character : (before cs : List ℕ) → sort_of (39 ∷ cs) ≡ Sort.Character → IsRight before (39 ∷ cs) (scan_character cs)
+unfolding scan_character
+right-character before cs e = by (enclosed_from 0 39 false cs) refl
+    where
+      all : (t a : List ℕ) (p : Option TokenKind) → t ++ a ≡ 39 ∷ cs → IsPiece before t a p → (value : ℤ) × (ty : IntType) × IsCharacter t value ty × (p ≡ Some (kind.Number value ty))
+      all t a p g h = sorted Sort.Character before (39 ∷ cs) t a p e g h
+      body : (n : ℕ) → enclosed_from 0 39 false cs ≡ Some n → (t a : List ℕ) (value : ℤ) (ty : IntType) → t ++ a ≡ 39 ∷ cs → IsCharacter t value ty → (length t ≡ n + 2) × (only_value (characters (take n cs)) ≡ Some value)
+      body n f t a value ty g s =
+          let b = body-here 39 n cs s.body a (inl refl) f (tail-literal 39 39 cs s.body t a s.text_is g) s.inside in
+          ((let l = length-literal 39 s.body t s.text_is in omega (arith, l, b.0)),
+          ap (λ t. only_value (characters t)) b.1 ∙ ap only_value s.one ∙ s.value_is)
+      best : (n : ℕ) → (f : enclosed_from 0 39 false cs ≡ Some n) → (value : ℤ) → only_value (characters (take n cs)) ≡ Some value → Best before (39 ∷ cs) (n + 2) (Some (kind.Number value Int))
+      best n f value h =
+          let c = enclosed-some 0 n 39 false cs f in
+          let b = body-here 39 n cs c.body c.after (inl refl) f c.xs_is c.inside in
+          let r = only-some (characters c.body) value (ap (λ t. only_value (characters t)) (sym b.1) ∙ h) in
+          let l : length (39 ∷ (c.body ++ 39 ∷ [])) ≡ n + 2 = (let l = length-literal 39 c.body (39 ∷ (c.body ++ 39 ∷ [])) refl in omega (arith, l, b.0)) in
+          subst (λ n. Best before (39 ∷ cs) n (Some (kind.Number value Int))) l
+          (only before (39 ∷ cs) (39 ∷ (c.body ++ 39 ∷ [])) c.after (Some (kind.Number value Int)) (ap (λ (t : List ℕ). 39 ∷ t) (append_assoc c.body (39 ∷ []) c.after ∙ sym c.xs_is)) (omega arith)
+          (inr (record { body = c.body; character = r.character; text_is = refl; inside = c.inside; one = r.chs_are; value_is = r.value_is; type_is = refl }))
+          (λ u b p g q.
+            let w = all u b p g q in
+            let k = body n f u b w.0 w.1 g w.2 in
+            (k.0 ∙ sym l, w.3 ∙ ap (λ v. Some (kind.Number v w.1)) (let z : Some w.0 ≡ Some value = sym k.1 ∙ h in let y : w.0 ≡ value = cc in y) ∙ ap (λ t. Some (kind.Number value t)) w.2.type_is)))
+      piece : (n : ℕ) → enclosed_from 0 39 false cs ≡ Some n → (o : Option ℤ) → only_value (characters (take n cs)) ≡ o → IsRight before (39 ∷ cs) (character_piece n (characters (take n cs)) o)
+      piece n f None h =
+          ((λ t a p g q. let w = all t a p g q in let z : None ≡ Some w.0 = sym h ∙ (body n f t a w.0 w.1 g w.2).1 in cc),
+          fault-here 39 n cs (inl refl) f (unclosed-character cs e) (wide-character cs e))
+      piece n f (Some value) h = best n f value h
+      by : (o : Option ℕ) → enclosed_from 0 39 false cs ≡ o → IsRight before (39 ∷ cs) (character_of cs o)
+      by None f =
+          ((λ t a p g q.
+            let w = all t a p g q in
+            let z : None ≡ Some (0 + length w.2.body) = sym f ∙ ap (enclosed_from 0 39 false) (tail-literal 39 39 cs w.2.body t a w.2.text_is g) ∙ enclosed-here 0 39 false w.2.body a refl w.2.inside in cc),
+          inr (open-here 39 cs (inl refl) f))
+      by (Some n) f = piece n f (only_value (characters (take n cs))) refl
+
+pub character-right : (before : List ℕ) (c : ℕ) (cs : List ℕ) → sort_of (c ∷ cs) ≡ Sort.Character → IsRight before (c ∷ cs) (scan_character cs)
+character-right before c cs e =
+    let z : 39 ≡ c = sym (first-as Sort.Character c cs e) in
+    subst (λ c. IsRight before (c ∷ cs) (scan_character cs)) z (right-character before cs (ap (λ c. sort_of (c ∷ cs)) z ∙ e))
