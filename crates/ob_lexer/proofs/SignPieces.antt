@@ -171,7 +171,7 @@ dot-first sign.CaretAssign a h = absurd (false≢true h)
 dot-first sign.BarAssign a h = absurd (false≢true h)
 dot-first sign.Comma a h = absurd (false≢true h)
 
-sign-some : (s : Sign) → 1 ≤ length (sign_text s)
+pub sign-some : (s : Sign) → 1 ≤ length (sign_text s)
 sign-some sign.OpenBracket = lit≤ tt
 sign-some sign.CloseBracket = lit≤ tt
 sign-some sign.OpenParen = lit≤ tt
