@@ -6,6 +6,7 @@ mod comments;
 mod includes;
 mod names;
 mod numbers;
+mod place;
 mod quotes;
 mod scanner;
 mod signs;
