@@ -13,3 +13,4 @@ pub mod IncludePieces
 pub mod NumberPieces
 pub mod QuotePieces
 pub mod Scanning
+pub mod PlaceLemmas

@@ -1,4 +1,4 @@
-ghost use Rattle.std.specs.Prelude.{◌≡◌, ◌≤◌, length, drop};
+ghost use Rattle.std.specs.Prelude.{◌≡◌, ◌≤◌, length, take, drop};
 ghost use Rattle.std.specs.List.{prefix_len};
 ghost use Rattle.ob_tree.specs.Bytes.{is_within, is_letter, is_name_byte, is_digit, is_octal_digit, is_hex_digit, is_white, is_blank};
 ghost use Rattle.ob_lexer.specs.Scan.{has};
@@ -56,6 +56,13 @@ pub fn skip(bytes: &[u8], n: usize) -> &[u8]
     } else {
         &bytes[bytes.len()..]
     }
+}
+
+/// The first `n` bytes, or all where there are fewer.
+pub fn front(bytes: &[u8], n: usize) -> &[u8]
+    ensures { result.now ≡ take n bytes.now }
+{
+    if n <= bytes.len() { &bytes[..n] } else { bytes }
 }
 
 #[tactic(auto, unfolding(ob_tree::specs::Bytes::is_letter))]
