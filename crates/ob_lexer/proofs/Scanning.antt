@@ -9,10 +9,12 @@ use Rattle.ob_tree.specs.declared.tokens.TokenKind.{TokenKind}
 use Rattle.ob_tree.specs.declared.tokens.Token.{Token}
 use Rattle.ob_tree.specs.declared.faults.LexKind.{LexKind}
 use Rattle.ob_tree.specs.declared.faults.LexKind.TheVariants as kind
+use Rattle.ob_tree.specs.declared.faults.LexFault.{LexFault}
+use Rattle.ob_tree.specs.declared.faults.LexFault.TheVariants as fault
 use Rattle.ob_lexer.specs.declared.taken.Taken.{Taken}
 use Rattle.ob_lexer.specs.declared.scanner.Sort.{Sort}
 use Rattle.ob_lexer.specs.Scan.{sort_of, scan_sort, scan}
-use Rattle.ob_lexer.specs.Texts.{Piece, text_of, AreLongest, tokens_of, token_of, Spells, StopsAt}
+use Rattle.ob_lexer.specs.Texts.{Piece, text_of, AreLongest, tokens_of, token_of, Spells, StopsAt, HasLexFault, fault_of}
 use Rattle.ob_lexer.proofs.Prefixes.{take-here, drop-here, same-here, length-here}
 use Rattle.ob_lexer.proofs.Taking.{Best, IsRight, sorted, white-right}
 use Rattle.ob_lexer.proofs.SignPieces.{sign-right, sign-some}
@@ -229,3 +231,20 @@ run-more bytes tokens at fresh w l f e r =
       within = (let m = b.within in omega (arith, m, length-drop at bytes, l));
       read = take-on at w.length bytes;
     }
+
+-- what an answer that is right says of each outcome that the text has
+
+pub right-spelled : (text : List ℕ) (ts : List Token) (f : LexFault) → Spells ts text → HasLexFault text f → f ≡ fault.NoMemory
+right-spelled text ts (fault.Stray at) g h = absurd (spells-no-fault text ts kind.Stray at g h)
+right-spelled text ts (fault.Unclosed at) g h = absurd (spells-no-fault text ts kind.Unclosed at g h)
+right-spelled text ts (fault.Wide at) g h = absurd (spells-no-fault text ts kind.Wide at g h)
+right-spelled text ts fault.NoMemory g h = refl
+
+same-fault_of : (text : List ℕ) (k l : LexKind) (i j : ℕ) → StopsAt text k i → StopsAt text l j → fault_of k i ≡ fault_of l j
+same-fault_of text k l i j g h = let s = stops-same text k l i j g h in ap (λ k. fault_of k i) s.0 ∙ ap (fault_of l) s.1
+
+pub right-faulty : (text : List ℕ) (k : LexKind) (i : ℕ) (f : LexFault) → StopsAt text k i → HasLexFault text f → (f ≡ fault_of k i) ⊎ (f ≡ fault.NoMemory)
+right-faulty text k i (fault.Stray at) g h = inl (same-fault_of text kind.Stray k at i h g)
+right-faulty text k i (fault.Unclosed at) g h = inl (same-fault_of text kind.Unclosed k at i h g)
+right-faulty text k i (fault.Wide at) g h = inl (same-fault_of text kind.Wide k at i h g)
+right-faulty text k i fault.NoMemory g h = inr refl

@@ -6,9 +6,9 @@ use Rattle.ob_tree.specs.Spaces.{last_line}
 use Rattle.ob_tree.specs.declared.tokens.Token.{Token}
 use Rattle.ob_tree.specs.declared.tokens.TokenKind.{TokenKind}
 use Rattle.ob_tree.specs.declared.tokens.Span.{Span}
-use Rattle.ob_tree.specs.declared.faults.LexKind.TheVariants as kind
 use Rattle.ob_tree.specs.declared.faults.LexFault.{LexFault}
 use Rattle.ob_tree.specs.declared.faults.LexFault.TheVariants as fault
+use Rattle.ob_lexer.specs.Texts.{fault_of}
 use Rattle.ob_lexer.specs.declared.place.Place.{Place}
 use Rattle.ob_lexer.specs.declared.taken.Refusal.{Refusal}
 use Rattle.ob_lexer.specs.declared.taken.Refusal.TheVariants as refusal
@@ -41,7 +41,5 @@ tokens_at place past (Some token) =
 
 -- a refusal as a fault at a place
 abbrev pub fault_at : Refusal → ℕ → LexFault
-fault_at (refusal.Fault kind.Stray) at = fault.Stray at
-fault_at (refusal.Fault kind.Unclosed) at = fault.Unclosed at
-fault_at (refusal.Fault kind.Wide) at = fault.Wide at
+fault_at (refusal.Fault kind) at = fault_of kind at
 fault_at refusal.NoMemory at = fault.NoMemory

@@ -64,7 +64,12 @@ pub record StopsAt (text : List ℕ) (fault : LexKind) (at : ℕ) : Type 0 where
   pub stuck : IsStuck (text_of pieces) (first ∷ rest)
   pub fault_is : HasFault (first ∷ rest) fault
 
--- the fault that a text has; want of memory is no fault of the text
+abbrev pub fault_of : LexKind → ℕ → LexFault
+fault_of kind.Stray at = fault.Stray at
+fault_of kind.Unclosed at = fault.Unclosed at
+fault_of kind.Wide at = fault.Wide at
+
+-- the fault is that of the text; want of memory is none of the text's
 abbrev pub HasLexFault : List ℕ → LexFault → Type 0
 HasLexFault text (fault.Stray at) = StopsAt text kind.Stray at
 HasLexFault text (fault.Unclosed at) = StopsAt text kind.Unclosed at

@@ -1,7 +1,7 @@
-ghost use Rattle.std.specs.Prelude.{◌≡◌, ℕ, ◌≤◌, ◌^◌, length, List, MatchResult};
+ghost use Rattle.std.specs.Prelude.{◌≡◌, ℕ, ◌≤◌, ◌^◌, length, List, MatchResult, ◌⊎◌};
 ghost use Rattle.ob_tree.specs.declared.tokens.Token.{Token};
 ghost use Rattle.ob_tree.specs.declared.faults.LexKind.{LexKind};
-ghost use Rattle.ob_lexer.specs.Texts.{Spells, StopsAt, HasLexFault};
+ghost use Rattle.ob_lexer.specs.Texts.{Spells, StopsAt, HasLexFault, fault_of};
 
 use std::alloc::Global;
 
@@ -19,7 +19,11 @@ use crate::scanner::scan;
 /// `NoMemory` may come for want of memory. The time is linear in the text's length.
 pub fn lex(alloc: Global, bytes: &[u8]) -> Result<Vec<Token>, LexFault>
     requires { length bytes.now ≤ 2 ^ 20 }
-    ensures { MatchResult result (λ tokens. Spells tokens.items bytes.now) (HasLexFault bytes.now) }
+    ensures right { MatchResult result (λ tokens. Spells tokens.items bytes.now) (HasLexFault bytes.now) }
+    ensures spelled { (ts : List Token) → Spells ts bytes.now
+        → MatchResult result (λ tokens. tokens.items ≡ ts) (λ fault. fault ≡ LexFault.NoMemory) }
+    ensures faulty { (kind : LexKind) (at : ℕ) → StopsAt bytes.now kind at
+        → MatchResult result (λ _. ⊥) (λ fault. (fault ≡ fault_of kind at) ⊎ (fault ≡ LexFault.NoMemory)) }
 {
     let mut tokens = Vec::new(alloc);
     let mut place = Place::start();

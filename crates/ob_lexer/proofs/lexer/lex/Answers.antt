@@ -1,6 +1,7 @@
 use Rattle.std.proofs.Common.{arith, sym, ap, ◌∙◌, subst}
 use Rattle.ob_lexer.specs.Texts.{HasLexFault}
 use Rattle.ob_lexer.proofs.PlaceLemmas.{Reading, reading-start, reading-small, reading-refused, took, reading-next, reading-end}
+use Rattle.ob_lexer.proofs.Scanning.{right-spelled, right-faulty, spells-same, spells-no-fault}
 use Rattle.ob_lexer.proofs.lexer.lex.Goals as goal
 
 pub loop-place-init : goal.loop-place-init
@@ -8,8 +9,13 @@ loop-place-init c = reading-start c.args.bytes.now c.new-tokens.result.items c.s
 
 pub returns-in-Err : goal.returns-in-Err
 returns-in-Err c =
-    subst (HasLexFault c.args.bytes.now) (sym c.fault.ensures)
-    (reading-refused c.args.bytes.now c.loop-place.tokens.items c.loop-place.place c.skip-rest.result.now c.in-Err.refusal c.loop-place.invariant c.loop-place-test.true c.skip-rest.ensures c.in-Err.ensures)
+    let right : HasLexFault c.args.bytes.now c.fault.result = subst (HasLexFault c.args.bytes.now) (sym c.fault.ensures)
+        (reading-refused c.args.bytes.now c.loop-place.tokens.items c.loop-place.place c.skip-rest.result.now c.in-Err.refusal c.loop-place.invariant c.loop-place-test.true c.skip-rest.ensures c.in-Err.ensures) in
+    record {
+      right = right;
+      spelled = λ ts g. right-spelled c.args.bytes.now ts c.fault.result g right;
+      faulty = λ k i g. right-faulty c.args.bytes.now k i c.fault.result g right;
+    }
 
 pub past-after-requires-clause-line : goal.past-after-requires-clause-line
 past-after-requires-clause-line c = (reading-small c.args.bytes.now c.loop-place.tokens.items c.loop-place.place c.loop-place.invariant).line
@@ -43,4 +49,10 @@ loop-place-preserved c =
     c.in_ok-push-in-Ok.ensures
 
 pub returns : goal.returns
-returns c = reading-end c.args.bytes.now c.loop-place.tokens.items c.loop-place.place c.loop-place-test.false c.loop-place.invariant
+returns c =
+    let right = reading-end c.args.bytes.now c.loop-place.tokens.items c.loop-place.place c.loop-place-test.false c.loop-place.invariant in
+    record {
+      right = right;
+      spelled = λ ts g. spells-same c.args.bytes.now c.loop-place.tokens.items ts right g;
+      faulty = λ k i g. spells-no-fault c.args.bytes.now c.loop-place.tokens.items k i right g;
+    }
