@@ -1,8 +1,7 @@
 -- The classes of bytes, one against the other.
-use Rattle.std.proofs.Common.{◌≡◌, ℕ, ◌≤◌, ◌<◌, ◌⊎◌, inl, inr, Bool, true, false, ◌&&◌, ◌||◌, leb, eqb, refl, arith, ◌∙◌, ap, sym}
+use Rattle.std.proofs.Common.{◌≡◌, ℕ, ◌≤◌, ◌<◌, ◌⊎◌, inl, inr, true, false, ◌||◌, leb, eqb, arith}
 use Rattle.std.proofs.lemmas.Bool.{leb-true, eqb-true, ne_eqb, lt-leb, and_parts, or_cases, or_from, and_left, and_right}
-use Rattle.std.proofs.lemmas.Bool.Decides.{nat_tests}
-use Rattle.ob_tree.specs.Bytes.{is_within, is_letter, is_digit, is_octal_digit, is_hex_digit, is_name_byte, is_white, is_blank, is_nonzero_digit}
+use Rattle.ob_tree.specs.Bytes.{is_within, is_letter, is_digit, is_white}
 
 pub within-bounds : (low high c : ℕ) → is_within low high c ≡ true → (low ≤ c) × (c ≤ high)
 within-bounds low high c e = let p = and_parts (leb low c) (leb c high) e in (leb-true low c p.0, leb-true c high p.1)
@@ -15,10 +14,10 @@ pub letter-bounds : (c : ℕ) → is_letter c ≡ true → 65 ≤ c
 unfolding is_letter
 letter-bounds c e =
     elim (or_cases (is_within 97 122 c) (is_within 65 90 c || eqb c 95) e) [
-      inl h ↦ (let b = within-bounds 97 122 c h in omega (arith, b))
-    | inr h ↦ elim (or_cases (is_within 65 90 c) (eqb c 95) h) [
-        inl g ↦ (let b = within-bounds 65 90 c g in omega (arith, b))
-      | inr g ↦ (let b = eqb-true c 95 g in omega (arith, b))
+      | inl h ↦ (let b = within-bounds 97 122 c h in omega (arith, b))
+      | inr h ↦ elim (or_cases (is_within 65 90 c) (eqb c 95) h) [
+        | inl g ↦ (let b = within-bounds 65 90 c g in omega (arith, b))
+        | inr g ↦ (let b = eqb-true c 95 g in omega (arith, b))
       ]
     ]
 

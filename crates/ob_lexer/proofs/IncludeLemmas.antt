@@ -1,5 +1,5 @@
 -- The end of an include line.
-use Rattle.std.proofs.Common.{◌≡◌, ℕ, zero, suc, ◌-◌, ◌<◌, List, [], ◌∷◌, length, drop, Bool, true, false, cond, eqb, None, Some, Option, refl, arith, ◌∙◌, ap, sym}
+use Rattle.std.proofs.Common.{◌≡◌, ℕ, zero, suc, ◌-◌, List, [], ◌∷◌, drop, true, false, refl, arith, ◌∙◌, ap, sym}
 use Rattle.std.proofs.lemmas.Bool.{ne_eqb}
 use Rattle.ob_tree.specs.Bytes.{ends_line}
 use Rattle.ob_lexer.specs.Scan.{filler_length, is_return, line_end_from}

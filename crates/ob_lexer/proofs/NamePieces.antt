@@ -1,9 +1,8 @@
 -- Words, names and the words that read as spaces.
-use Rattle.std.proofs.Common.{◌≡◌, ℕ, zero, suc, ◌+◌, ◌<◌, ◌≤◌, ◌⊎◌, inl, inr, List, [], ◌∷◌, ◌++◌, length, take, drop, Bool, true, false, cond, ◌&&◌, ◌||◌, Option, None, Some, Result, Ok, Err, refl, arith, ◌∙◌, ap, sym, subst}
-use Rattle.std.proofs.lemmas.Bool.{and_parts, and_from, false≢true, true≢false, or_cases, or_parts, false_from_ne_true, or_left, or_right}
-use Rattle.std.proofs.lemmas.List.{take-append-drop}
+use Rattle.std.proofs.Common.{◌≡◌, ℕ, zero, suc, ◌≤◌, inl, inr, List, ◌∷◌, length, take, drop, Bool, true, false, cond, ◌||◌, Option, None, Some, refl, arith, ◌∙◌, ap, sym, subst}
+use Rattle.std.proofs.lemmas.Bool.{false≢true, or_cases, or_left}
 use Rattle.std.specs.Prelude.{codes}
-use Rattle.std.specs.List.{find, list_all, prefix_len}
+use Rattle.std.specs.List.{list_all, prefix_len}
 use Rattle.std.specs.Str.{bytes_eq}
 use Rattle.ob_tree.specs.Bytes.{begins_with, is_letter, is_name_byte, is_digit}
 use Rattle.ob_tree.specs.Words.{word_text, IsQualifier, IsName}
@@ -14,9 +13,9 @@ use Rattle.ob_tree.specs.declared.tokens.Keyword.{Keyword}
 use Rattle.ob_tree.specs.declared.tokens.Keyword.TheVariants as word
 use Rattle.ob_lexer.specs.declared.scanner.Sort.{Sort}
 use Rattle.ob_lexer.specs.Scan.{sort_of, words, is_word, keyword_of, is_qualifier, word_or_name, name_kind, scan_name}
-use Rattle.ob_lexer.proofs.Prefixes.{take-here, drop-here, same-here, length-here, bytes_eq-same, bytes_eq-refl, find-true, prefix_len-most, prefix_len-within, prefix_len-some, length-prefix, list_all-prefix}
+use Rattle.ob_lexer.proofs.Prefixes.{take-here, bytes_eq-same, find-true, prefix_len-most, prefix_len-within, prefix_len-some, list_all-prefix}
 use Rattle.ob_lexer.proofs.Sorts.{IsNamePiece}
-use Rattle.ob_lexer.proofs.Taking.{Best, IsRight, sorted, first-as}
+use Rattle.ob_lexer.proofs.Taking.{IsRight, sorted, first-as}
 
 keyword_of-text : (k : Keyword) → keyword_of (word_text k) ≡ Some k
 unfolding keyword_of
@@ -118,20 +117,20 @@ qualifier-is : (text : List ℕ) → is_qualifier text ≡ true → IsQualifier 
 unfolding is_qualifier
 qualifier-is text h =
     elim (or_cases (bytes_eq text (codes "const")) (bytes_eq text (codes "register") || bytes_eq text (codes "restrict")) h) [
-      inl e ↦ inl (bytes_eq-same text _ e)
-    | inr g ↦ elim (or_cases (bytes_eq text (codes "register")) (bytes_eq text (codes "restrict")) g) [
-        inl e ↦ inr (inl (bytes_eq-same text _ e))
-      | inr e ↦ inr (inr (bytes_eq-same text _ e))
+      | inl e ↦ inl (bytes_eq-same text _ e)
+      | inr g ↦ elim (or_cases (bytes_eq text (codes "register")) (bytes_eq text (codes "restrict")) g) [
+        | inl e ↦ inr (inl (bytes_eq-same text _ e))
+        | inr e ↦ inr (inr (bytes_eq-same text _ e))
       ]
     ]
 
 kind-name : (text : List ℕ) → IsName text → name_kind text ≡ Some (kind.Name text)
 kind-name text h = by (keyword_of text) refl (is_qualifier text) refl
-    where
-      by : (o : Option Keyword) → keyword_of text ≡ o → (b : Bool) → is_qualifier text ≡ b → word_or_name text o ≡ Some (kind.Name text)
-      by (Some k) e b f = absurd (h.no_word k (keyword-text text k e))
-      by None e true f = absurd (h.no_qualifier (qualifier-is text f))
-      by None e false f = rw f refl
+  where
+    by : (o : Option Keyword) → keyword_of text ≡ o → (b : Bool) → is_qualifier text ≡ b → word_or_name text o ≡ Some (kind.Name text)
+    by (Some k) e b f = absurd (h.no_word k (keyword-text text k e))
+    by None e true f = absurd (h.no_qualifier (qualifier-is text f))
+    by None e false f = rw f refl
 
 letters-piece : (t : List ℕ) (p : Option TokenKind) → IsNamePiece t p → list_all is_name_byte t ≡ true
 letters-piece t p (inl h) = ap (list_all is_name_byte) h.1 ∙ letters-text h.0
@@ -155,18 +154,22 @@ is-qualifier text (inr (inr e)) = subst (λ t. is_qualifier t ≡ true) (sym e) 
 -- a run of letters, digits and `_` that begins with a letter is a piece
 possible-name : (before text after : List ℕ) → begins_with is_letter text ≡ true → list_all is_name_byte text ≡ true → IsPiece before text after (name_kind text)
 possible-name before text after f l = by (keyword_of text) refl (is_qualifier text) refl
-    where
-      pick : (b : Bool) → is_qualifier text ≡ b → keyword_of text ≡ None → IsPiece before text after (cond b None (Some (kind.Name text)))
-      pick true g e = inr (inr (inl (qualifier-is text g)))
-      pick false g e = (refl, record {
+  where
+    pick : (b : Bool) → is_qualifier text ≡ b → keyword_of text ≡ None → IsPiece before text after (cond b None (Some (kind.Name text)))
+    pick true g e = inr (inr (inl (qualifier-is text g)))
+    pick false g e = (
+      refl,
+      record {
         first = f;
         letters = l;
         no_word = λ k h. qualifier-no-word text k e h;
         no_qualifier = λ q. false≢true (sym g ∙ is-qualifier text q);
-      })
-      by : (o : Option Keyword) → keyword_of text ≡ o → (b : Bool) → is_qualifier text ≡ b → IsPiece before text after (word_or_name text o)
-      by (Some k) e b g = keyword-text text k e
-      by None e b g = subst (λ b. IsPiece before text after (cond b None (Some (kind.Name text)))) (sym g) (pick b g e)
+      },
+    )
+
+    by : (o : Option Keyword) → keyword_of text ≡ o → (b : Bool) → is_qualifier text ≡ b → IsPiece before text after (word_or_name text o)
+    by (Some k) e b g = keyword-text text k e
+    by None e b g = subst (λ b. IsPiece before text after (cond b None (Some (kind.Name text)))) (sym g) (pick b g e)
 
 begins-take : (n : ℕ) (c : ℕ) (cs : List ℕ) → 1 ≤ n → is_letter c ≡ true → begins_with is_letter (take n (c ∷ cs)) ≡ true
 begins-take zero c cs l e = absurd (omega arith)
@@ -188,7 +191,7 @@ name-right before c cs e =
       within = prefix_len-within is_name_byte rest;
       possible = possible-name before (take n rest) (drop n rest) (begins-take n c cs some letter) (list_all-prefix is_name_byte rest);
       most = λ t a p g h. let w = letters-piece t p (sorted Sort.Name before rest t a p e g h) in
-        subst (λ r. length t ≤ prefix_len is_name_byte r) g (prefix_len-most is_name_byte t a w);
+          subst (λ r. length t ≤ prefix_len is_name_byte r) g (prefix_len-most is_name_byte t a w);
       same = λ t a p g h l.
-        kind-piece t p (sorted Sort.Name before rest t a p e g h) ∙ ap name_kind (sym (take-here t a rest g) ∙ ap (λ k. take k rest) l);
+          kind-piece t p (sorted Sort.Name before rest t a p e g h) ∙ ap name_kind (sym (take-here t a rest g) ∙ ap (λ k. take k rest) l);
     }

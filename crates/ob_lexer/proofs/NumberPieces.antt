@@ -1,23 +1,22 @@
 -- Integer constants.
-use Rattle.std.proofs.Common.{◌≡◌, ℕ, zero, suc, ◌+◌, ◌-◌, ◌<◌, ◌≤◌, ◌⊎◌, inl, inr, List, [], ◌∷◌, ◌++◌, length, get_or, take, drop, Bool, true, false, not, cond, ◌&&◌, ◌||◌, eqb, leb, Option, None, Some, Result, Ok, Err, ℤ, pos, refl, arith, ◌∙◌, ap, sym, subst}
-use Rattle.std.proofs.lemmas.Bool.{and_parts, and_from, false≢true, true≢false, or_cases, or_from, or_left, or_right, eqb-true, eq-eqb, ne_eqb, cond-false, cond-true, false_from_ne_true, le-leb}
-use Rattle.std.proofs.lemmas.List.{take-append-drop, append_assoc, length-append, append-nil, take_at, drop_at, drop-drop, length-take-le}
-use Rattle.std.specs.Prelude.{Contains, codes}
+use Rattle.std.proofs.Common.{◌≡◌, ℕ, zero, suc, ◌+◌, ◌<◌, ◌≤◌, ◌⊎◌, inl, inr, List, [], ◌∷◌, ◌++◌, length, take, drop, Bool, true, false, cond, ◌&&◌, ◌||◌, eqb, leb, Option, None, Some, ℤ, pos, refl, arith, ◌∙◌, ap, sym, subst}
+use Rattle.std.proofs.lemmas.Bool.{and_parts, and_from, false≢true, true≢false, or_cases, or_left, or_right, eqb-true, eq-eqb, ne_eqb, le-leb}
+use Rattle.std.proofs.lemmas.List.{take-append-drop, append_assoc, length-append, drop-drop}
+use Rattle.std.specs.Prelude.{Contains}
 use Rattle.std.specs.List.{list_all, prefix_len, find}
 use Rattle.std.specs.Str.{bytes_eq}
 use Rattle.ob_tree.specs.Bytes.{begins_with, is_within, is_digit, is_nonzero_digit, is_octal_digit, is_hex_digit, is_name_byte, is_letter}
-use Rattle.ob_tree.specs.Constants.{number, base_number, IsDigits, IsConstant, IsNumber, IsWideConstant, suffixes, type_of}
-use Rattle.ob_tree.specs.Pieces.{IsPiece, IsStuck, HasFault, IsWide}
+use Rattle.ob_tree.specs.Constants.{number, base_number, IsDigits, IsConstant, IsWideConstant, suffixes, type_of}
+use Rattle.ob_tree.specs.Pieces.{IsPiece, IsWide}
 use Rattle.ob_tree.specs.declared.tokens.TokenKind.{TokenKind}
 use Rattle.ob_tree.specs.declared.tokens.TokenKind.TheVariants as kind
 use Rattle.ob_tree.specs.declared.constants.Base.{Base}
 use Rattle.ob_tree.specs.declared.constants.Suffix.{Suffix}
-use Rattle.ob_tree.specs.declared.faults.LexKind.TheVariants as fault
 use Rattle.ob_words.specs.declared.types.IntType.{IntType}
 use Rattle.ob_lexer.specs.declared.scanner.Sort.{Sort}
 use Rattle.ob_lexer.specs.Scan.{has, sort_of, is_hex_prefix, base_at, prefix_of, class_of, digits_at, behind_digits, begins_ending, ending_at, value_at, typed, with_ending, scan_number}
-use Rattle.ob_lexer.proofs.Prefixes.{prefix_len-exact, prefix_len-most, prefix_len-within, prefix_len-some, length-prefix, list_all-prefix, bytes_eq-same, bytes_eq-refl, take-here, drop-here, same-here, length-here, find-true}
-use Rattle.ob_lexer.proofs.Classes.{within-bounds, within-not}
+use Rattle.ob_lexer.proofs.Prefixes.{prefix_len-exact, prefix_len-some, length-prefix, list_all-prefix, bytes_eq-same, bytes_eq-refl, take-here, drop-here, same-here, find-true}
+use Rattle.ob_lexer.proofs.Classes.{within-bounds}
 use Rattle.ob_lexer.proofs.Tables.{Among, falls, find-among, find-greatest}
 use Rattle.ob_lexer.proofs.Taking.{Best, IsRight, sorted, first-as, only, no-unclosed, no-wide}
 
@@ -43,12 +42,13 @@ all-rows P r h m = all-among P r suffixes h (row-among r suffixes m)
 find-contains : (p : List ℕ × Suffix → Bool) (rs : List (List ℕ × Suffix)) (r : List ℕ × Suffix) → find p rs ≡ Some r → Contains rs r
 find-contains p [] r e = absurd (let z : None ≡ Some r = e in cc)
 find-contains p (y ∷ rs) r e = by (find-contains p rs r) (p y) e
-    where
-      more : Contains rs r → Contains (y ∷ rs) r
-      more m = (suc m.0, omega (arith, m.1), m.2)
-      by : (find p rs ≡ Some r → Contains rs r) → (b : Bool) → cond b (Some y) (find p rs) ≡ Some r → Contains (y ∷ rs) r
-      by rec true e = (zero, omega arith, (let z : y ≡ r = cc in z))
-      by rec false e = more (rec e)
+  where
+    more : Contains rs r → Contains (y ∷ rs) r
+    more m = (suc m.0, omega (arith, m.1), m.2)
+
+    by : (find p rs ≡ Some r → Contains rs r) → (b : Bool) → cond b (Some y) (find p rs) ≡ Some r → Contains (y ∷ rs) r
+    by rec true e = (zero, omega arith, (let z : y ≡ r = cc in z))
+    by rec false e = more (rec e)
 
 rows-fall : falls (λ (r : List ℕ × Suffix). length r.0) suffixes ≡ true
 rows-fall = refl
@@ -130,27 +130,29 @@ pub record Most (p : ℕ → Bool) (ds : List ℕ) (end : List ℕ × Suffix) (r
 -- digits with a suffix are no longer than the run of digits with the longest suffix
 digits-most : (p : ℕ → Bool) (ds a rest : List ℕ) (end row : List ℕ × Suffix) → list_all p ds ≡ true → Contains suffixes end → begins_with p end.0 ≡ false → ds ++ (end.0 ++ a) ≡ rest → ending_at (drop (prefix_len p rest) rest) ≡ Some row → Most p ds end rest row
 digits-most p ds a rest end row h m n e f = by (begins_with p (end.0 ++ a)) refl
-    where
-      empty : (t : List ℕ) → begins_with p t ≡ false → begins_with p (t ++ a) ≡ true → length t ≡ 0
-      empty [] n g = refl
-      empty (c ∷ t) n g = absurd (false≢true (sym n ∙ g))
-      by : (b : Bool) → begins_with p (end.0 ++ a) ≡ b → Most p ds end rest row
-      by true g =
-          let l = run-longer p ds (end.0 ++ a) h g in
-          let z = empty end.0 n g in
-          let k = ap (prefix_len p) e in
-          record { most = omega (arith, l, z, k); same = λ q. absurd (omega (arith, l, z, k, q)) }
-      by false g =
-          let k : prefix_len p rest ≡ length ds = sym (ap (prefix_len p) e) ∙ prefix_len-exact p ds (end.0 ++ a) h (λ z. false≢true (sym g ∙ z)) in
-          let d : end.0 ++ a ≡ drop (prefix_len p rest) rest = sym (drop-here ds (end.0 ++ a) rest e) ∙ ap (λ n. drop n rest) (sym k) in
-          let l = ending-most (drop (prefix_len p rest) rest) a row end f m d in
-          record {
-            most = omega (arith, k, l);
-            same = λ q.
-              (sym (take-here ds (end.0 ++ a) rest e) ∙ ap (λ n. take n rest) (sym k),
-              same-suffix end row m (ending-row (drop (prefix_len p rest) rest) row f)
-              (same-here end.0 a row.0 (drop (length row.0) (drop (prefix_len p rest) rest)) (drop (prefix_len p rest) rest) d (ending-here (drop (prefix_len p rest) rest) row f) (omega (arith, k, q))));
-          }
+  where
+    empty : (t : List ℕ) → begins_with p t ≡ false → begins_with p (t ++ a) ≡ true → length t ≡ 0
+    empty [] n g = refl
+    empty (c ∷ t) n g = absurd (false≢true (sym n ∙ g))
+
+    by : (b : Bool) → begins_with p (end.0 ++ a) ≡ b → Most p ds end rest row
+    by true g =
+        let l = run-longer p ds (end.0 ++ a) h g in
+        let z = empty end.0 n g in
+        let k = ap (prefix_len p) e in
+        record { most = omega (arith, l, z, k); same = λ q. absurd (omega (arith, l, z, k, q)) }
+    by false g =
+        let k : prefix_len p rest ≡ length ds = sym (ap (prefix_len p) e) ∙ prefix_len-exact p ds (end.0 ++ a) h (λ z. false≢true (sym g ∙ z)) in
+        let d : end.0 ++ a ≡ drop (prefix_len p rest) rest = sym (drop-here ds (end.0 ++ a) rest e) ∙ ap (λ n. drop n rest) (sym k) in
+        let l = ending-most (drop (prefix_len p rest) rest) a row end f m d in
+        record {
+          most = omega (arith, k, l);
+          same = λ q. (
+            sym (take-here ds (end.0 ++ a) rest e) ∙ ap (λ n. take n rest) (sym k),
+            same-suffix end row m (ending-row (drop (prefix_len p rest) rest) row f)
+                (same-here end.0 a row.0 (drop (length row.0) (drop (prefix_len p rest) rest)) (drop (prefix_len p rest) rest) d (ending-here (drop (prefix_len p rest) rest) row f) (omega (arith, k, q))),
+          );
+        }
 
 -- the base
 
@@ -239,8 +241,8 @@ same-base b t a rest ds end row v e q l h m w f =
     record {
       most = omega (arith, d.most, n, p, l);
       same = λ k.
-        let z = d.same (omega (arith, k, n, p, l)) in
-        (sym e, z.1, w ∙ ap (number (base_number b)) (z.0 ∙ sym (digits-as b rest e)) ∙ ap (λ b. number (base_number b) (digits_at rest)) (sym e));
+          let z = d.same (omega (arith, k, n, p, l)) in
+          (sym e, z.1, w ∙ ap (number (base_number b)) (z.0 ∙ sym (digits-as b rest e)) ∙ ap (λ b. number (base_number b) (digits_at rest)) (sym e));
     }
 
 constant-text : (t a rest pre end : List ℕ) → t ++ a ≡ rest → t ≡ pre ++ end → pre ++ (end ++ a) ≡ rest
@@ -266,24 +268,25 @@ octal-in-hex t a rest (z ∷ ds) end row v x e q l h g m =
       most = omega (arith, one, l, p);
       same = λ k. absurd (omega (arith, one, l, p, k));
     }
-    where
-      is-x : (c : ℕ) → c ≡ x.sign → (eqb c 120 || eqb c 88) ≡ true
-      is-x c i = elim x.sign_is [ inl e ↦ or_left (eqb c 120) (eqb c 88) (eq-eqb c 120 (i ∙ e)) | inr e ↦ or_right (eqb c 120) (eqb c 88) (eq-eqb c 88 (i ∙ e)) ]
-      alone : (ds t : List ℕ) → ds ++ (t ++ a) ≡ x.sign ∷ (x.digit ∷ x.more) → list_all is_octal_digit ds ≡ true → begins_with (λ c. eqb c 120 || eqb c 88) t ≡ false → length ds + length t ≡ 0
-      alone [] [] e h n = refl
-      alone [] (c ∷ t) e h n = absurd (false≢true (sym n ∙ is-x c (let y : c ≡ x.sign = cc in y)))
-      alone (d ∷ ds) t e h n =
-          let y : d ≡ x.sign = cc in
-          absurd (not-octal d (elim x.sign_is [ inl i ↦ inl (y ∙ i) | inr i ↦ inr (y ∙ i) ]) (and_parts (is_octal_digit d) (list_all is_octal_digit ds) h).0)
+  where
+    is-x : (c : ℕ) → c ≡ x.sign → (eqb c 120 || eqb c 88) ≡ true
+    is-x c i = elim x.sign_is [ inl e ↦ or_left (eqb c 120) (eqb c 88) (eq-eqb c 120 (i ∙ e)) | inr e ↦ or_right (eqb c 120) (eqb c 88) (eq-eqb c 88 (i ∙ e)) ]
+
+    alone : (ds t : List ℕ) → ds ++ (t ++ a) ≡ x.sign ∷ (x.digit ∷ x.more) → list_all is_octal_digit ds ≡ true → begins_with (λ c. eqb c 120 || eqb c 88) t ≡ false → length ds + length t ≡ 0
+    alone [] [] e h n = refl
+    alone [] (c ∷ t) e h n = absurd (false≢true (sym n ∙ is-x c (let y : c ≡ x.sign = cc in y)))
+    alone (d ∷ ds) t e h n =
+        let y : d ≡ x.sign = cc in
+        absurd (not-octal d (elim x.sign_is [ inl i ↦ inl (y ∙ i) | inr i ↦ inr (y ∙ i) ]) (and_parts (is_octal_digit d) (list_all is_octal_digit ds) h).0)
 
 octal-known : (t a rest ds : List ℕ) (end row : List ℕ × Suffix) (v : ℕ) → ds ++ (end.0 ++ a) ≡ rest → length t ≡ length ds + length end.0 → list_all is_octal_digit ds ≡ true → begins_with (λ c. eqb c 48) ds ≡ true → Contains suffixes end → v ≡ number 8 ds → ending_at (behind_digits rest) ≡ Some row → Known t Base.Octal end.1 v rest row
 octal-known t a rest ds end row v q l h g m w f = by (is_hex_prefix rest) refl
-    where
-      by : (b : Bool) → is_hex_prefix rest ≡ b → Known t Base.Octal end.1 v rest row
-      by true x = octal-in-hex t a rest ds end row v (hex-parts rest x) (base-hex rest x) q l h g m
-      by false x =
-          same-base Base.Octal t a rest ds end row v
-          (base-octal rest x (ap (begins_with (λ c. eqb c 48)) (sym q) ∙ begins-append (λ c. eqb c 48) ds (end.0 ++ a) g)) q (omega (arith, l)) h m w f
+  where
+    by : (b : Bool) → is_hex_prefix rest ≡ b → Known t Base.Octal end.1 v rest row
+    by true x = octal-in-hex t a rest ds end row v (hex-parts rest x) (base-hex rest x) q l h g m
+    by false x =
+        same-base Base.Octal t a rest ds end row v
+        (base-octal rest x (ap (begins_with (λ c. eqb c 48)) (sym q) ∙ begins-append (λ c. eqb c 48) ds (end.0 ++ a) g)) q (omega (arith, l)) h m w f
 
 hex-known : (t a rest ds : List ℕ) (x : ℕ) (end row : List ℕ × Suffix) (v : ℕ) → (x ≡ 120) ⊎ (x ≡ 88) → 48 ∷ (x ∷ (ds ++ (end.0 ++ a))) ≡ rest → length t ≡ 2 + length ds + length end.0 → list_all is_hex_digit ds ≡ true → begins_with is_hex_digit ds ≡ true → Contains suffixes end → v ≡ number 16 ds → ending_at (behind_digits rest) ≡ Some row → Known t Base.Hexadecimal end.1 v rest row
 hex-known t a rest [] x end row v i q l h g m w f = absurd (false≢true g)
@@ -303,14 +306,15 @@ constant-known t a rest Base.Octal s v row h e f =
     let g : t ≡ h.digits ++ h.ending = h.text_is ∙ ap (λ u. u ++ h.ending) d.0 in
     octal-known t a rest h.digits (h.ending, s) row v (constant-text t a rest h.digits h.ending e g) (length-text t h.digits h.ending g) d.2 d.1 h.ending_is h.value_is f
 constant-known t a rest Base.Hexadecimal s v row h e f = by h.digits_are
-    where
-      at : (x : ℕ) → (x ≡ 120) ⊎ (x ≡ 88) → h.prefixed ≡ 48 ∷ (x ∷ h.digits) → list_all is_hex_digit h.digits ≡ true → begins_with is_hex_digit h.digits ≡ true → Known t Base.Hexadecimal s v rest row
-      at x i p l g =
-          let n : t ≡ (48 ∷ (x ∷ h.digits)) ++ h.ending = h.text_is ∙ ap (λ u. u ++ h.ending) p in
-          hex-known t a rest h.digits x (h.ending, s) row v i (constant-text t a rest (48 ∷ (x ∷ h.digits)) h.ending e n)
-          (let k = length-text t (48 ∷ (x ∷ h.digits)) h.ending n in omega (arith, k)) l g h.ending_is h.value_is f
-      by : IsDigits Base.Hexadecimal h.prefixed h.digits → Known t Base.Hexadecimal s v rest row
-      by d = elim d.0 [ inl p ↦ at 120 (inl refl) p d.2 d.1 | inr p ↦ at 88 (inr refl) p d.2 d.1 ]
+  where
+    at : (x : ℕ) → (x ≡ 120) ⊎ (x ≡ 88) → h.prefixed ≡ 48 ∷ (x ∷ h.digits) → list_all is_hex_digit h.digits ≡ true → begins_with is_hex_digit h.digits ≡ true → Known t Base.Hexadecimal s v rest row
+    at x i p l g =
+        let n : t ≡ (48 ∷ (x ∷ h.digits)) ++ h.ending = h.text_is ∙ ap (λ u. u ++ h.ending) p in
+        hex-known t a rest h.digits x (h.ending, s) row v i (constant-text t a rest (48 ∷ (x ∷ h.digits)) h.ending e n)
+        (let k = length-text t (48 ∷ (x ∷ h.digits)) h.ending n in omega (arith, k)) l g h.ending_is h.value_is f
+
+    by : IsDigits Base.Hexadecimal h.prefixed h.digits → Known t Base.Hexadecimal s v rest row
+    by d = elim d.0 [ inl p ↦ at 120 (inl refl) p d.2 d.1 | inr p ↦ at 88 (inr refl) p d.2 d.1 ]
 
 -- the constant that is read
 
@@ -328,10 +332,10 @@ digits-all b rest e = ap (list_all (has (class_of b))) (digits-as b rest e) ∙ 
 begins-digits : (p : ℕ → Bool) (xs : List ℕ) (q : ℕ → Bool) → begins_with p xs ≡ true → begins_with q xs ≡ true → begins_with q (take (prefix_len p xs) xs) ≡ true
 begins-digits p [] q h g = g
 begins-digits p (c ∷ cs) q h g = by (prefix_len p (c ∷ cs)) (prefix_len-some p c cs h)
-    where
-      by : (n : ℕ) → 1 ≤ n → begins_with q (take n (c ∷ cs)) ≡ true
-      by zero l = absurd (omega arith)
-      by (suc n) l = g
+  where
+    by : (n : ℕ) → 1 ≤ n → begins_with q (take n (c ∷ cs)) ≡ true
+    by zero l = absurd (omega arith)
+    by (suc n) l = g
 
 begins-as : (b : Base) (q : ℕ → Bool) (rest : List ℕ) → base_at rest ≡ b → begins_with (has (class_of b)) (drop (prefix_of b) rest) ≡ true → begins_with q (drop (prefix_of b) rest) ≡ true → begins_with q (digits_at rest) ≡ true
 begins-as b q rest e h g = ap (begins_with q) (digits-as b rest e) ∙ begins-digits (has (class_of b)) (drop (prefix_of b) rest) q h g
@@ -369,34 +373,37 @@ unfolding is_nonzero_digit is_digit
 nonzero-from c h g =
     let b = within-bounds 48 57 c h in
     and_from (leb 49 c) (leb c 57) (le-leb 49 c (by (c) b.0 (λ e. true≢false (sym (eq-eqb c 48 e) ∙ g)))) (le-leb c 57 b.1)
-    where
-      by : (c : ℕ) → 48 ≤ c → (c ≡ 48 → ⊥) → 49 ≤ c
-      by c l n = omega (arith, n)
+  where
+    by : (c : ℕ) → 48 ≤ c → (c ≡ 48 → ⊥) → 49 ≤ c
+    by c l n = omega (arith, n)
 
 read-constant : (c : ℕ) (cs : List ℕ) (row : List ℕ × Suffix) → is_digit c ≡ true → ending_at (behind_digits (c ∷ cs)) ≡ Some row → Read (c ∷ cs) row
 read-constant c cs row h f = by (is_hex_prefix (c ∷ cs)) refl (eqb c 48) refl
-    where
-      hex : HexParts (c ∷ cs) → base_at (c ∷ cs) ≡ Base.Hexadecimal → Read (c ∷ cs) row
-      hex x e =
-          let digits : begins_with is_hex_digit (drop 2 (c ∷ cs)) ≡ true = ap (λ r. begins_with is_hex_digit (drop 2 r)) x.rest_is ∙ x.digit_is in
-          let whole : 48 ∷ (x.sign ∷ (digits_at (c ∷ cs) ++ behind_digits (c ∷ cs))) ≡ c ∷ cs =
-              ap (λ (t : List ℕ). 48 ∷ (x.sign ∷ t)) (split-as Base.Hexadecimal (c ∷ cs) e ∙ ap (drop 2) x.rest_is) ∙ sym x.rest_is in
-          read-from (c ∷ cs) (48 ∷ (x.sign ∷ digits_at (c ∷ cs))) row whole (let p : prefix_of (base_at (c ∷ cs)) ≡ 2 = ap prefix_of e in omega (arith, p))
-          (subst (λ b. IsDigits b (48 ∷ (x.sign ∷ digits_at (c ∷ cs))) (digits_at (c ∷ cs))) (sym e)
-          (elim x.sign_is [ inl i ↦ inl (ap (λ x. 48 ∷ (x ∷ digits_at (c ∷ cs))) i) | inr i ↦ inr (ap (λ x. 48 ∷ (x ∷ digits_at (c ∷ cs))) i) ],
-          begins-as Base.Hexadecimal is_hex_digit (c ∷ cs) e digits digits, digits-all Base.Hexadecimal (c ∷ cs) e)) f
-      by : (a : Bool) → is_hex_prefix (c ∷ cs) ≡ a → (b : Bool) → eqb c 48 ≡ b → Read (c ∷ cs) row
-      by true x b g = hex (hex-parts (c ∷ cs) x) (base-hex (c ∷ cs) x)
-      by false x true g =
-          let e = base-octal (c ∷ cs) x g in
-          read-from (c ∷ cs) (digits_at (c ∷ cs)) row (split-as Base.Octal (c ∷ cs) e) (let p : prefix_of (base_at (c ∷ cs)) ≡ 0 = ap prefix_of e in omega (arith, p))
-          (subst (λ b. IsDigits b (digits_at (c ∷ cs)) (digits_at (c ∷ cs))) (sym e)
-          (refl, begins-as Base.Octal (λ c. eqb c 48) (c ∷ cs) e (octal-zero c g) g, digits-all Base.Octal (c ∷ cs) e)) f
-      by false x false g =
-          let e = base-decimal (c ∷ cs) x g in
-          read-from (c ∷ cs) (digits_at (c ∷ cs)) row (split-as Base.Decimal (c ∷ cs) e) (let p : prefix_of (base_at (c ∷ cs)) ≡ 0 = ap prefix_of e in omega (arith, p))
-          (subst (λ b. IsDigits b (digits_at (c ∷ cs)) (digits_at (c ∷ cs))) (sym e)
-          (refl, begins-as Base.Decimal is_nonzero_digit (c ∷ cs) e h (nonzero-from c h g), digits-all Base.Decimal (c ∷ cs) e)) f
+  where
+    hex : HexParts (c ∷ cs) → base_at (c ∷ cs) ≡ Base.Hexadecimal → Read (c ∷ cs) row
+    hex x e =
+        let digits : begins_with is_hex_digit (drop 2 (c ∷ cs)) ≡ true = ap (λ r. begins_with is_hex_digit (drop 2 r)) x.rest_is ∙ x.digit_is in
+        let whole : 48 ∷ (x.sign ∷ (digits_at (c ∷ cs) ++ behind_digits (c ∷ cs))) ≡ c ∷ cs =
+        ap (λ (t : List ℕ). 48 ∷ (x.sign ∷ t)) (split-as Base.Hexadecimal (c ∷ cs) e ∙ ap (drop 2) x.rest_is) ∙ sym x.rest_is in
+        read-from (c ∷ cs) (48 ∷ (x.sign ∷ digits_at (c ∷ cs))) row whole (let p : prefix_of (base_at (c ∷ cs)) ≡ 2 = ap prefix_of e in omega (arith, p))
+        (subst (λ b. IsDigits b (48 ∷ (x.sign ∷ digits_at (c ∷ cs))) (digits_at (c ∷ cs))) (sym e) (
+          elim x.sign_is [ inl i ↦ inl (ap (λ x. 48 ∷ (x ∷ digits_at (c ∷ cs))) i) | inr i ↦ inr (ap (λ x. 48 ∷ (x ∷ digits_at (c ∷ cs))) i) ],
+          begins-as Base.Hexadecimal is_hex_digit (c ∷ cs) e digits digits,
+          digits-all Base.Hexadecimal (c ∷ cs) e,
+        )) f
+
+    by : (a : Bool) → is_hex_prefix (c ∷ cs) ≡ a → (b : Bool) → eqb c 48 ≡ b → Read (c ∷ cs) row
+    by true x b g = hex (hex-parts (c ∷ cs) x) (base-hex (c ∷ cs) x)
+    by false x true g =
+        let e = base-octal (c ∷ cs) x g in
+        read-from (c ∷ cs) (digits_at (c ∷ cs)) row (split-as Base.Octal (c ∷ cs) e) (let p : prefix_of (base_at (c ∷ cs)) ≡ 0 = ap prefix_of e in omega (arith, p))
+        (subst (λ b. IsDigits b (digits_at (c ∷ cs)) (digits_at (c ∷ cs))) (sym e)
+        (refl, begins-as Base.Octal (λ c. eqb c 48) (c ∷ cs) e (octal-zero c g) g, digits-all Base.Octal (c ∷ cs) e)) f
+    by false x false g =
+        let e = base-decimal (c ∷ cs) x g in
+        read-from (c ∷ cs) (digits_at (c ∷ cs)) row (split-as Base.Decimal (c ∷ cs) e) (let p : prefix_of (base_at (c ∷ cs)) ≡ 0 = ap prefix_of e in omega (arith, p))
+        (subst (λ b. IsDigits b (digits_at (c ∷ cs)) (digits_at (c ∷ cs))) (sym e)
+        (refl, begins-as Base.Decimal is_nonzero_digit (c ∷ cs) e h (nonzero-from c h g), digits-all Base.Decimal (c ∷ cs) e)) f
 
 -- the bytes of a constant are letters and digits
 
@@ -437,10 +444,10 @@ hex-name : (c : ℕ) → is_hex_digit c ≡ true → is_name_byte c ≡ true
 unfolding is_hex_digit
 hex-name c h =
     elim (or_cases (is_within 48 57 c) (is_within 65 70 c || is_within 97 102 c) h) [
-      inl e ↦ (let b = within-bounds 48 57 c e in digit-name c (digit-within c b.0 b.1))
-    | inr g ↦ letter-name c (elim (or_cases (is_within 65 70 c) (is_within 97 102 c) g) [
-        inl e ↦ (let b = within-bounds 65 70 c e in inl (b.0, omega (arith, b)))
-      | inr e ↦ (let b = within-bounds 97 102 c e in inr (b.0, omega (arith, b)))
+      | inl e ↦ (let b = within-bounds 48 57 c e in digit-name c (digit-within c b.0 b.1))
+      | inr g ↦ letter-name c (elim (or_cases (is_within 65 70 c) (is_within 97 102 c) g) [
+        | inl e ↦ (let b = within-bounds 65 70 c e in inl (b.0, omega (arith, b)))
+        | inr e ↦ (let b = within-bounds 97 102 c e in inr (b.0, omega (arith, b)))
       ])
     ]
 
@@ -464,8 +471,8 @@ prefixed-names Base.Octal t ds h = ap (list_all is_name_byte) h.0 ∙ list_all-w
 prefixed-names Base.Hexadecimal t ds h =
     let d = list_all-weaker is_hex_digit is_name_byte ds hex-name h.2 in
     elim h.0 [
-      inl e ↦ ap (list_all is_name_byte) e ∙ and_from (is_name_byte 48) (is_name_byte 120 && list_all is_name_byte ds) zero-name (and_from (is_name_byte 120) (list_all is_name_byte ds) (x-name 120 (inl refl)) d)
-    | inr e ↦ ap (list_all is_name_byte) e ∙ and_from (is_name_byte 48) (is_name_byte 88 && list_all is_name_byte ds) zero-name (and_from (is_name_byte 88) (list_all is_name_byte ds) (x-name 88 (inr refl)) d)
+      | inl e ↦ ap (list_all is_name_byte) e ∙ and_from (is_name_byte 48) (is_name_byte 120 && list_all is_name_byte ds) zero-name (and_from (is_name_byte 120) (list_all is_name_byte ds) (x-name 120 (inl refl)) d)
+      | inr e ↦ ap (list_all is_name_byte) e ∙ and_from (is_name_byte 48) (is_name_byte 88 && list_all is_name_byte ds) zero-name (and_from (is_name_byte 88) (list_all is_name_byte ds) (x-name 88 (inr refl)) d)
     ]
 
 constant-names : (t : List ℕ) (b : Base) (s : Suffix) (v : ℕ) → IsConstant t b s v → list_all is_name_byte t ≡ true
@@ -489,11 +496,12 @@ runs_on a = begins_with (λ c. is_name_byte c || eqb c 46) a
 -- a constant behind which nothing runs on is the whole one
 number-whole : (c : ℕ) (cs t a : List ℕ) (b : Base) (s : Suffix) (v : ℕ) (row : List ℕ × Suffix) → Read (c ∷ cs) row → Known t b s v (c ∷ cs) row → t ++ a ≡ c ∷ cs → (runs_on a ≡ true → ⊥) → length t ≡ whole_length (c ∷ cs) row
 number-whole c cs t a b s v row r k e n = by k.most
-    where
-      short : length t < whole_length (c ∷ cs) row → ⊥
-      short l = n (begins-or is_name_byte (λ c. eqb c 46) a (shorter-begins is_name_byte t a r.text r.after (e ∙ sym r.rest_is) (constant-names r.text (base_at (c ∷ cs)) row.1 (value_at (c ∷ cs)) r.constant) (omega (arith, l, r.length_is))))
-      by : length t ≤ whole_length (c ∷ cs) row → length t ≡ whole_length (c ∷ cs) row
-      by l = omega (arith, l, short)
+  where
+    short : length t < whole_length (c ∷ cs) row → ⊥
+    short l = n (begins-or is_name_byte (λ c. eqb c 46) a (shorter-begins is_name_byte t a r.text r.after (e ∙ sym r.rest_is) (constant-names r.text (base_at (c ∷ cs)) row.1 (value_at (c ∷ cs)) r.constant) (omega (arith, l, r.length_is))))
+
+    by : length t ≤ whole_length (c ∷ cs) row → length t ≡ whole_length (c ∷ cs) row
+    by l = omega (arith, l, short)
 
 record Whole (c : ℕ) (cs : List ℕ) (row : List ℕ × Suffix) (t a : List ℕ) (p : Option TokenKind) : Type 0 where
   pub length_is : length t ≡ whole_length (c ∷ cs) row
@@ -506,16 +514,18 @@ record Whole (c : ℕ) (cs : List ℕ) (row : List ℕ × Suffix) (t a : List �
 
 constant-some : (t : List ℕ) (b : Base) (s : Suffix) (v : ℕ) → IsConstant t b s v → 1 ≤ length t
 constant-some t b s v h = by b h.digits_are
-    where
-      begun : (p : ℕ → Bool) (ds : List ℕ) → begins_with p ds ≡ true → 1 ≤ length ds
-      begun p [] h = absurd (false≢true h)
-      begun p (c ∷ ds) h = omega arith
-      l : length t ≡ length h.prefixed + length h.ending
-      l = length-text t h.prefixed h.ending h.text_is
-      by : (b : Base) → IsDigits b h.prefixed h.digits → 1 ≤ length t
-      by Base.Decimal d = omega (arith, l, begun is_nonzero_digit h.digits d.1, ap length d.0)
-      by Base.Octal d = omega (arith, l, begun (λ c. eqb c 48) h.digits d.1, ap length d.0)
-      by Base.Hexadecimal d = elim d.0 [ inl e ↦ omega (arith, l, ap length e) | inr e ↦ omega (arith, l, ap length e) ]
+  where
+    begun : (p : ℕ → Bool) (ds : List ℕ) → begins_with p ds ≡ true → 1 ≤ length ds
+    begun p [] h = absurd (false≢true h)
+    begun p (c ∷ ds) h = omega arith
+
+    l : length t ≡ length h.prefixed + length h.ending
+    l = length-text t h.prefixed h.ending h.text_is
+
+    by : (b : Base) → IsDigits b h.prefixed h.digits → 1 ≤ length t
+    by Base.Decimal d = omega (arith, l, begun is_nonzero_digit h.digits d.1, ap length d.0)
+    by Base.Octal d = omega (arith, l, begun (λ c. eqb c 48) h.digits d.1, ap length d.0)
+    by Base.Hexadecimal d = elim d.0 [ inl e ↦ omega (arith, l, ap length e) | inr e ↦ omega (arith, l, ap length e) ]
 
 number-piece : (before : List ℕ) (c : ℕ) (cs : List ℕ) (row : List ℕ × Suffix) → sort_of (c ∷ cs) ≡ Sort.Number → ending_at (behind_digits (c ∷ cs)) ≡ Some row → Read (c ∷ cs) row → (t a : List ℕ) (p : Option TokenKind) → t ++ a ≡ c ∷ cs → IsPiece before t a p → Whole c cs row t a p
 number-piece before c cs row e f r t a p g h =
@@ -545,39 +555,44 @@ wide-known c cs row ty f r y w =
 typed-right : (before : List ℕ) (c : ℕ) (cs : List ℕ) (row : List ℕ × Suffix) → sort_of (c ∷ cs) ≡ Sort.Number → ending_at (behind_digits (c ∷ cs)) ≡ Some row → Read (c ∷ cs) row → IsRight before (c ∷ cs) (with_ending (c ∷ cs) (Some row))
 typed-right before c cs row e f r =
     by (type_of (base_at (c ∷ cs)) row.1 (value_at (c ∷ cs))) refl (runs_on (drop (length row.0) (behind_digits (c ∷ cs)))) refl
-    where
-      all : (t a : List ℕ) (p : Option TokenKind) → t ++ a ≡ c ∷ cs → IsPiece before t a p → Whole c cs row t a p
-      all = number-piece before c cs row e f r
-      after : (t a : List ℕ) → t ++ a ≡ c ∷ cs → length t ≡ whole_length (c ∷ cs) row → a ≡ drop (length row.0) (behind_digits (c ∷ cs))
-      after t a g l = sym (drop-here t a (c ∷ cs) g) ∙ ap (λ n. drop n (c ∷ cs)) (l ∙ sym r.length_is) ∙ drop-here r.text r.after (c ∷ cs) r.rest_is ∙ r.after_is
-      wide : type_of (base_at (c ∷ cs)) row.1 (value_at (c ∷ cs)) ≡ None → IsWide (c ∷ cs)
-      wide y = inl (record {
-        text = r.text;
-        after = r.after;
-        base = base_at (c ∷ cs);
-        suffix = row.1;
-        amount = value_at (c ∷ cs);
-        here_is = sym r.rest_is;
-        constant = r.constant;
-        longest = λ t a b s n g k. (let m = constant-known t a (c ∷ cs) b s n row k (sym g) f in omega (arith, m.most, r.length_is));
-        no_type = y;
-      })
-      best : (ty : IntType) → type_of (base_at (c ∷ cs)) row.1 (value_at (c ∷ cs)) ≡ Some ty → runs_on (drop (length row.0) (behind_digits (c ∷ cs))) ≡ false → Best before (c ∷ cs) (length r.text) (Some (kind.Number (pos (value_at (c ∷ cs))) ty))
-      best ty y n =
-          only before (c ∷ cs) r.text r.after (Some (kind.Number (pos (value_at (c ∷ cs))) ty)) r.rest_is (constant-some r.text (base_at (c ∷ cs)) row.1 (value_at (c ∷ cs)) r.constant)
-          (inl (record { base = base_at (c ∷ cs); suffix = row.1; amount = value_at (c ∷ cs); constant = r.constant; type_is = y; value_is = refl; apart = λ h. false≢true (sym n ∙ sym (ap runs_on r.after_is) ∙ h) }))
-          (λ u b p g q. let w = all u b p g q in
-            (w.length_is ∙ sym r.length_is,
-            w.piece_is ∙ ap (λ v. Some (kind.Number v w.ty)) w.value_is ∙ ap (λ t. Some (kind.Number (pos (value_at (c ∷ cs))) t)) (let z : Some w.ty ≡ Some ty = sym w.type_is ∙ y in let x : w.ty ≡ ty = cc in x)))
-      by : (o : Option IntType) → type_of (base_at (c ∷ cs)) row.1 (value_at (c ∷ cs)) ≡ o → (b : Bool) → runs_on (drop (length row.0) (behind_digits (c ∷ cs))) ≡ b → IsRight before (c ∷ cs) (typed (c ∷ cs) row.0 o)
-      by None y b n = ((λ t a p g h. let z : None ≡ Some (all t a p g h).ty = sym y ∙ (all t a p g h).type_is in cc), (no-unclosed Sort.Number (c ∷ cs) e (λ z. z), wide y))
-      by (Some ty) y true n = rw n ((λ t a p g h. let w = all t a p g h in w.apart (ap runs_on (after t a g w.length_is) ∙ n)), (no-unclosed Sort.Number (c ∷ cs) e (λ z. z), no-wide Sort.Number (c ∷ cs) e (wide-known c cs row ty f r y)))
-      by (Some ty) y false n = rw n (subst (λ k. Best before (c ∷ cs) k (Some (kind.Number (pos (value_at (c ∷ cs))) ty))) r.length_is (best ty y n))
+  where
+    all : (t a : List ℕ) (p : Option TokenKind) → t ++ a ≡ c ∷ cs → IsPiece before t a p → Whole c cs row t a p
+    all = number-piece before c cs row e f r
+
+    after : (t a : List ℕ) → t ++ a ≡ c ∷ cs → length t ≡ whole_length (c ∷ cs) row → a ≡ drop (length row.0) (behind_digits (c ∷ cs))
+    after t a g l = sym (drop-here t a (c ∷ cs) g) ∙ ap (λ n. drop n (c ∷ cs)) (l ∙ sym r.length_is) ∙ drop-here r.text r.after (c ∷ cs) r.rest_is ∙ r.after_is
+
+    wide : type_of (base_at (c ∷ cs)) row.1 (value_at (c ∷ cs)) ≡ None → IsWide (c ∷ cs)
+    wide y = inl (record {
+      text = r.text;
+      after = r.after;
+      base = base_at (c ∷ cs);
+      suffix = row.1;
+      amount = value_at (c ∷ cs);
+      here_is = sym r.rest_is;
+      constant = r.constant;
+      longest = λ t a b s n g k. (let m = constant-known t a (c ∷ cs) b s n row k (sym g) f in omega (arith, m.most, r.length_is));
+      no_type = y;
+    })
+
+    best : (ty : IntType) → type_of (base_at (c ∷ cs)) row.1 (value_at (c ∷ cs)) ≡ Some ty → runs_on (drop (length row.0) (behind_digits (c ∷ cs))) ≡ false → Best before (c ∷ cs) (length r.text) (Some (kind.Number (pos (value_at (c ∷ cs))) ty))
+    best ty y n =
+        only before (c ∷ cs) r.text r.after (Some (kind.Number (pos (value_at (c ∷ cs))) ty)) r.rest_is (constant-some r.text (base_at (c ∷ cs)) row.1 (value_at (c ∷ cs)) r.constant)
+        (inl (record { base = base_at (c ∷ cs); suffix = row.1; amount = value_at (c ∷ cs); constant = r.constant; type_is = y; value_is = refl; apart = λ h. false≢true (sym n ∙ sym (ap runs_on r.after_is) ∙ h) }))
+        (λ u b p g q. let w = all u b p g q in (
+          w.length_is ∙ sym r.length_is,
+          w.piece_is ∙ ap (λ v. Some (kind.Number v w.ty)) w.value_is ∙ ap (λ t. Some (kind.Number (pos (value_at (c ∷ cs))) t)) (let z : Some w.ty ≡ Some ty = sym w.type_is ∙ y in let x : w.ty ≡ ty = cc in x),
+        ))
+
+    by : (o : Option IntType) → type_of (base_at (c ∷ cs)) row.1 (value_at (c ∷ cs)) ≡ o → (b : Bool) → runs_on (drop (length row.0) (behind_digits (c ∷ cs))) ≡ b → IsRight before (c ∷ cs) (typed (c ∷ cs) row.0 o)
+    by None y b n = ((λ t a p g h. let z : None ≡ Some (all t a p g h).ty = sym y ∙ (all t a p g h).type_is in cc), (no-unclosed Sort.Number (c ∷ cs) e (λ z. z), wide y))
+    by (Some ty) y true n = rw n ((λ t a p g h. let w = all t a p g h in w.apart (ap runs_on (after t a g w.length_is) ∙ n)), (no-unclosed Sort.Number (c ∷ cs) e (λ z. z), no-wide Sort.Number (c ∷ cs) e (wide-known c cs row ty f r y)))
+    by (Some ty) y false n = rw n (subst (λ k. Best before (c ∷ cs) k (Some (kind.Number (pos (value_at (c ∷ cs))) ty))) r.length_is (best ty y n))
 
 pub number-right : (before : List ℕ) (c : ℕ) (cs : List ℕ) → sort_of (c ∷ cs) ≡ Sort.Number → IsRight before (c ∷ cs) (scan_number (c ∷ cs))
 unfolding scan_number
 number-right before c cs e = by (ending_at (behind_digits (c ∷ cs))) refl
-    where
-      by : (o : Option (List ℕ × Suffix)) → ending_at (behind_digits (c ∷ cs)) ≡ o → IsRight before (c ∷ cs) (with_ending (c ∷ cs) o)
-      by None f = absurd (ending-none (behind_digits (c ∷ cs)) f)
-      by (Some row) f = typed-right before c cs row e f (read-constant c cs row (first-as Sort.Number c cs e) f)
+  where
+    by : (o : Option (List ℕ × Suffix)) → ending_at (behind_digits (c ∷ cs)) ≡ o → IsRight before (c ∷ cs) (with_ending (c ∷ cs) o)
+    by None f = absurd (ending-none (behind_digits (c ∷ cs)) f)
+    by (Some row) f = typed-right before c cs row e f (read-constant c cs row (first-as Sort.Number c cs e) f)

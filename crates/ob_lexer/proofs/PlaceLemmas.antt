@@ -1,9 +1,9 @@
 -- Places are those of the bytes before them.
-use Rattle.std.proofs.Common.{◌≡◌, ℕ, suc, ◌+◌, ◌<◌, ◌≤◌, ◌^◌, List, [], ◌∷◌, ◌++◌, length, take, drop, Bool, true, false, cond, ◌&&◌, eqb, Option, None, Some, Ok, Err, refl, arith, ◌∙◌, ap, sym, subst}
+use Rattle.std.proofs.Common.{◌≡◌, ℕ, suc, ◌+◌, ◌<◌, ◌≤◌, List, [], ◌∷◌, ◌++◌, length, take, drop, Bool, true, false, cond, ◌&&◌, eqb, Option, None, Some, Ok, Err, refl, arith, ◌∙◌, ap, sym, subst}
 use Rattle.std.proofs.lemmas.List.{append_assoc, length-append, append-nil, length-take-le, length_push}
 use Rattle.std.proofs.lemmas.List.Sums.{sum_by-append, count_by-le-length}
 use Rattle.std.proofs.lemmas.List.Folds.{list_all-append}
-use Rattle.std.specs.List.{list_all, count_by, sum_by}
+use Rattle.std.specs.List.{list_all, count_by}
 use Rattle.ob_tree.specs.Bytes.{is_blank}
 use Rattle.ob_tree.specs.Spaces.{last_line, line_from}
 use Rattle.ob_tree.specs.declared.tokens.Token.{Token}
@@ -17,7 +17,7 @@ use Rattle.ob_lexer.specs.declared.taken.Refusal.TheVariants as refusal
 use Rattle.ob_lexer.specs.Texts.{token_of, HasLexFault, StopsAt, Spells}
 use Rattle.ob_lexer.specs.Scan.{scan, Scans}
 use Rattle.ob_lexer.specs.Places.{place_of, step, moved, tokens_at, fault_at}
-use Rattle.ob_lexer.proofs.Scanning.{Run, RunOn, run-start, run-more, run-fault, run-end, is_fresh}
+use Rattle.ob_lexer.proofs.Scanning.{Run, run-start, run-more, run-fault, run-end, is_fresh}
 
 abbrev make : ℕ → ℕ → ℕ → Bool → Place
 make a l c f = record { at = a; line = l; column = c; fresh = f }
@@ -38,23 +38,24 @@ lines-push before c = sum_by-append (λ x. cond (eqb x 10) 1 0) before (c ∷ []
 step-place : (before : List ℕ) (c : ℕ) → step (place_of before) c ≡ place_of (before ++ c ∷ [])
 unfolding step place_of
 step-place before c = by (eqb c 10) refl
-    where
-      n : ℕ
-      n = count_by (λ c. eqb c 10) before
-      by : (b : Bool) → eqb c 10 ≡ b → cond b (make (length before + 1) (1 + n + 1) 1 true) (make (length before + 1) (1 + n) (1 + length (last_line before) + 1) (list_all is_blank (last_line before) && is_blank c)) ≡ make (length (before ++ c ∷ [])) (1 + count_by (λ c. eqb c 10) (before ++ c ∷ [])) (1 + length (last_line (before ++ c ∷ []))) (list_all is_blank (last_line (before ++ c ∷ [])))
-      by true e =
-          let line : last_line (before ++ c ∷ []) ≡ [] = last_line-push before c ∙ ap (λ b. cond b [] (last_line before ++ c ∷ [])) e in
-          let lines = lines-push before c ∙ ap (λ b. n + (0 + cond b 1 0)) e in
-          same-make _ _ _ _ _ _ _ _ (sym (length_push before c)) (omega (arith, lines)) (omega (arith, ap length line)) (sym (ap (list_all is_blank) line))
-      by false e =
-          let line : last_line (before ++ c ∷ []) ≡ last_line before ++ c ∷ [] = last_line-push before c ∙ ap (λ b. cond b [] (last_line before ++ c ∷ [])) e in
-          let lines = lines-push before c ∙ ap (λ b. n + (0 + cond b 1 0)) e in
-          same-make _ _ _ _ _ _ _ _ (sym (length_push before c)) (omega (arith, lines)) (omega (arith, ap length line, length_push (last_line before) c))
-          (ap (λ b. list_all is_blank (last_line before) && b) (and-true (is_blank c)) ∙ sym (ap (list_all is_blank) line ∙ list_all-append is_blank (last_line before) (c ∷ [])))
-        where
-          and-true : (b : Bool) → b ≡ (b && true)
-          and-true true = refl
-          and-true false = refl
+  where
+    n : ℕ
+    n = count_by (λ c. eqb c 10) before
+
+    by : (b : Bool) → eqb c 10 ≡ b → cond b (make (length before + 1) (1 + n + 1) 1 true) (make (length before + 1) (1 + n) (1 + length (last_line before) + 1) (list_all is_blank (last_line before) && is_blank c)) ≡ make (length (before ++ c ∷ [])) (1 + count_by (λ c. eqb c 10) (before ++ c ∷ [])) (1 + length (last_line (before ++ c ∷ []))) (list_all is_blank (last_line (before ++ c ∷ [])))
+    by true e =
+        let line : last_line (before ++ c ∷ []) ≡ [] = last_line-push before c ∙ ap (λ b. cond b [] (last_line before ++ c ∷ [])) e in
+        let lines = lines-push before c ∙ ap (λ b. n + (0 + cond b 1 0)) e in
+        same-make _ _ _ _ _ _ _ _ (sym (length_push before c)) (omega (arith, lines)) (omega (arith, ap length line)) (sym (ap (list_all is_blank) line))
+    by false e =
+        let line : last_line (before ++ c ∷ []) ≡ last_line before ++ c ∷ [] = last_line-push before c ∙ ap (λ b. cond b [] (last_line before ++ c ∷ [])) e in
+        let lines = lines-push before c ∙ ap (λ b. n + (0 + cond b 1 0)) e in
+        same-make _ _ _ _ _ _ _ _ (sym (length_push before c)) (omega (arith, lines)) (omega (arith, ap length line, length_push (last_line before) c))
+        (ap (λ b. list_all is_blank (last_line before) && b) (and-true (is_blank c)) ∙ sym (ap (list_all is_blank) line ∙ list_all-append is_blank (last_line before) (c ∷ [])))
+      where
+        and-true : (b : Bool) → b ≡ (b && true)
+        and-true true = refl
+        and-true false = refl
 
 pub moved-place : (before cs : List ℕ) → moved (place_of before) cs ≡ place_of (before ++ cs)
 moved-place before [] = ap place_of (sym (append-nil before))
@@ -64,10 +65,10 @@ moved-place before (c ∷ cs) =
 line-within : (line before : List ℕ) → length (line_from line before) ≤ length line + length before
 line-within line [] = omega arith
 line-within line (c ∷ cs) = by (eqb c 10) (line-within [] cs) (line-within (line ++ c ∷ []) cs)
-    where
-      by : (b : Bool) → length (line_from [] cs) ≤ length {A = ℕ} [] + length cs → length (line_from (line ++ c ∷ []) cs) ≤ length (line ++ c ∷ []) + length cs → length (line_from (cond b [] (line ++ c ∷ [])) cs) ≤ length line + suc (length cs)
-      by true g h = omega (arith, g)
-      by false g h = omega (arith, h, length_push line c)
+  where
+    by : (b : Bool) → length (line_from [] cs) ≤ length {A = ℕ} [] + length cs → length (line_from (line ++ c ∷ []) cs) ≤ length (line ++ c ∷ []) + length cs → length (line_from (cond b [] (line ++ c ∷ [])) cs) ≤ length line + suc (length cs)
+    by true g h = omega (arith, g)
+    by false g h = omega (arith, h, length_push line c)
 
 pub record Small (place : Place) : Type 0 where
   pub line : place.line ≤ place.at + 1
@@ -126,10 +127,10 @@ reading-more bytes tokens place w r l e =
     let at : moved place text ≡ place_of (take (place.at + w.length) bytes) = ap (λ p. moved p text) r.place_is ∙ moved-place before text ∙ ap place_of m.read in
     let lb : length before ≡ place.at = length-take-le place.at bytes r.within in
     let size : place.at + w.length ≡ length before + length text =
-        sym (length-take-le (place.at + w.length) bytes m.within) ∙ sym (ap length m.read) ∙ length-append before text in
+    sym (length-take-le (place.at + w.length) bytes m.within) ∙ sym (ap length m.read) ∙ length-append before text in
     let past : (moved place text).at ≡ place.at + w.length = ap (λ (p : Place). p.at) at ∙ at-place (take (place.at + w.length) bytes) ∙ length-take-le (place.at + w.length) bytes m.within in
     let tokens_are : tokens_at place (place.at + w.length) w.kind ≡ token_of before text w.kind =
-        ap (λ p. tokens_at p (place.at + w.length) w.kind) r.place_is ∙ tokens-place before text (place.at + w.length) w.kind size in
+    ap (λ p. tokens_at p (place.at + w.length) w.kind) r.place_is ∙ tokens-place before text (place.at + w.length) w.kind size in
     record {
       some = m.some;
       within = m.within;

@@ -1,5 +1,5 @@
 -- The characters of a body, one after the other.
-use Rattle.std.proofs.Common.{◌≡◌, ℕ, zero, suc, ◌+◌, ◌<◌, ◌≤◌, List, [], ◌∷◌, ◌++◌, length, drop, Bool, true, false, cond, eqb, refl, get_or, None, arith, ◌∙◌, ap, sym, length-drop}
+use Rattle.std.proofs.Common.{◌≡◌, ℕ, zero, suc, ◌+◌, ◌<◌, ◌≤◌, List, [], ◌∷◌, length, drop, Bool, true, false, cond, eqb, refl, get_or, None, arith, ◌∙◌, ap, sym, length-drop}
 use Rattle.std.proofs.lemmas.Bool.{eq-eqb}
 use Rattle.ob_tree.specs.Characters.{Character, escape_at, characters, characters_from}
 use Rattle.ob_lexer.specs.Scan.{first_character, only_value}

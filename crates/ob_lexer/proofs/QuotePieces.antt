@@ -1,33 +1,31 @@
 -- Character constants and string literals.
-use Rattle.std.proofs.Common.{◌≡◌, ℕ, zero, suc, ◌+◌, ◌-◌, ◌<◌, ◌≤◌, ◌⊎◌, inl, inr, List, [], ◌∷◌, ◌++◌, length, get_or, take, drop, map, Bool, true, false, not, cond, ◌&&◌, ◌||◌, eqb, ltb, Option, None, Some, Result, Ok, Err, ℤ, refl, arith, ◌∙◌, ap, sym, subst}
+use Rattle.std.proofs.Common.{◌≡◌, ℕ, zero, suc, ◌+◌, ◌<◌, ◌⊎◌, inl, inr, List, [], ◌∷◌, ◌++◌, length, take, map, Bool, true, false, not, cond, ◌&&◌, ◌||◌, eqb, Option, None, Some, ℤ, refl, arith, ◌∙◌, ap, sym, subst}
 use Rattle.std.proofs.lemmas.Bool.{and_parts, and_from, false≢true, true≢false, or_cases, or_left, or_right, eqb-true, eq-eqb, ltb-true, lt-ltb}
-use Rattle.std.proofs.lemmas.List.{take-append-drop, append_assoc, length-append, append-nil, take_at, drop_at}
+use Rattle.std.proofs.lemmas.List.{append_assoc, length-append, append-nil, take_at}
 use Rattle.std.specs.Prelude.{Contains, option_and_then}
 use Rattle.std.specs.List.{list_any}
 use Rattle.ob_tree.specs.Characters.{Character, characters, byte_of, value_of, is_inside, IsString, IsCharacter, IsQuote, IsOpenQuote, IsWideQuote}
-use Rattle.ob_tree.specs.Pieces.{IsPiece, IsStuck, HasFault, IsUnclosed, IsWide}
+use Rattle.ob_tree.specs.Pieces.{IsPiece, HasFault, IsUnclosed, IsWide}
 use Rattle.ob_tree.specs.declared.tokens.TokenKind.{TokenKind}
 use Rattle.ob_tree.specs.declared.tokens.TokenKind.TheVariants as kind
-use Rattle.ob_tree.specs.declared.faults.LexKind.{LexKind}
 use Rattle.ob_tree.specs.declared.faults.LexKind.TheVariants as fault
 use Rattle.ob_words.specs.declared.types.IntType.{IntType}
 use Rattle.ob_words.specs.declared.types.IntType.TheVariants.{Int}
 use Rattle.ob_lexer.specs.declared.scanner.Sort.{Sort}
 use Rattle.ob_lexer.specs.Scan.{sort_of, enclosed_from, is_wide, bytes_from, only_value, quote_fault, string_piece, character_piece, string_of, character_of, scan_string, scan_character}
 use Rattle.ob_lexer.proofs.Sorts.{unclosed-sort, UnclosedAs, wide-sort, WideAs}
-use Rattle.ob_lexer.proofs.Prefixes.{take-here, drop-here}
 use Rattle.ob_lexer.proofs.Taking.{Best, IsRight, sorted, first-as, only}
 
 -- the end of a literal
 
 here-step : (q : ℕ) (taken : Bool) (c : ℕ) → ((not (eqb c 10)) && (taken || not (eqb c q))) ≡ true → (eqb c 10 ≡ false) × ((not taken && eqb c q) ≡ false)
 here-step q taken c h = by (eqb c 10) refl taken (eqb c q) h
-    where
-      by : (a : Bool) → eqb c 10 ≡ a → (t b : Bool) → (not a && (t || not b)) ≡ true → (eqb c 10 ≡ false) × ((not t && b) ≡ false)
-      by true e t b h = absurd (false≢true h)
-      by false e true b h = (e, refl)
-      by false e false true h = absurd (false≢true h)
-      by false e false false h = (e, refl)
+  where
+    by : (a : Bool) → eqb c 10 ≡ a → (t b : Bool) → (not a && (t || not b)) ≡ true → (eqb c 10 ≡ false) × ((not t && b) ≡ false)
+    by true e t b h = absurd (false≢true h)
+    by false e true b h = (e, refl)
+    by false e false true h = absurd (false≢true h)
+    by false e false false h = (e, refl)
 
 -- the body is found
 pub enclosed-here : (at q : ℕ) (taken : Bool) (body after : List ℕ) → eqb q 10 ≡ false → is_inside q taken body ≡ true → enclosed_from at q taken (body ++ q ∷ after) ≡ Some (at + length body)
@@ -47,34 +45,36 @@ pub record Enclosed (at n q : ℕ) (taken : Bool) (xs : List ℕ) : Type 0 where
 
 some-step : (q : ℕ) (taken : Bool) (c : ℕ) → eqb c 10 ≡ false → (not taken && eqb c q) ≡ false → ((not (eqb c 10)) && (taken || not (eqb c q))) ≡ true
 some-step q taken c e h = rw e (by taken (eqb c q) h)
-    where
-      by : (t b : Bool) → (not t && b) ≡ false → (t || not b) ≡ true
-      by true b h = refl
-      by false true h = absurd (true≢false h)
-      by false false h = refl
+  where
+    by : (t b : Bool) → (not t && b) ≡ false → (t || not b) ≡ true
+    by true b h = refl
+    by false true h = absurd (true≢false h)
+    by false false h = refl
 
 -- what is found is a body
 pub enclosed-some : (at n q : ℕ) (taken : Bool) (xs : List ℕ) → enclosed_from at q taken xs ≡ Some n → Enclosed at n q taken xs
 enclosed-some at n q taken [] h = absurd (let z : None ≡ Some n = h in cc)
 enclosed-some at n q taken (c ∷ cs) h =
     by (enclosed-some (at + 1) n q (not taken && eqb c 92) cs) (eqb c 10) refl (not taken && eqb c q) refl h
-    where
-      last : (not taken && eqb c q) ≡ true → at ≡ n → Enclosed at n q taken (c ∷ cs)
-      last e z =
-          let p = and_parts (not taken) (eqb c q) e in
-          record { body = []; after = cs; xs_is = ap (λ c. c ∷ cs) (eqb-true c q p.1); n_is = omega (arith, z); inside = p.0 }
-      more : eqb c 10 ≡ false → (not taken && eqb c q) ≡ false → Enclosed (at + 1) n q (not taken && eqb c 92) cs → Enclosed at n q taken (c ∷ cs)
-      more e f r = record {
-        body = c ∷ r.body;
-        after = r.after;
-        xs_is = ap (λ (t : List ℕ). c ∷ t) r.xs_is;
-        n_is = omega (arith, r.n_is);
-        inside = and_from ((not (eqb c 10)) && (taken || not (eqb c q))) (is_inside q (not taken && eqb c 92) r.body) (some-step q taken c e f) r.inside;
-      }
-      by : (enclosed_from (at + 1) q (not taken && eqb c 92) cs ≡ Some n → Enclosed (at + 1) n q (not taken && eqb c 92) cs) → (a : Bool) → eqb c 10 ≡ a → (b : Bool) → (not taken && eqb c q) ≡ b → cond a None (cond b (Some at) (enclosed_from (at + 1) q (not taken && eqb c 92) cs)) ≡ Some n → Enclosed at n q taken (c ∷ cs)
-      by rec true e b f h = absurd (let z : None ≡ Some n = h in cc)
-      by rec false e true f h = last f (let z : at ≡ n = cc in z)
-      by rec false e false f h = more e f (rec h)
+  where
+    last : (not taken && eqb c q) ≡ true → at ≡ n → Enclosed at n q taken (c ∷ cs)
+    last e z =
+        let p = and_parts (not taken) (eqb c q) e in
+        record { body = []; after = cs; xs_is = ap (λ c. c ∷ cs) (eqb-true c q p.1); n_is = omega (arith, z); inside = p.0 }
+
+    more : eqb c 10 ≡ false → (not taken && eqb c q) ≡ false → Enclosed (at + 1) n q (not taken && eqb c 92) cs → Enclosed at n q taken (c ∷ cs)
+    more e f r = record {
+      body = c ∷ r.body;
+      after = r.after;
+      xs_is = ap (λ (t : List ℕ). c ∷ t) r.xs_is;
+      n_is = omega (arith, r.n_is);
+      inside = and_from ((not (eqb c 10)) && (taken || not (eqb c q))) (is_inside q (not taken && eqb c 92) r.body) (some-step q taken c e f) r.inside;
+    }
+
+    by : (enclosed_from (at + 1) q (not taken && eqb c 92) cs ≡ Some n → Enclosed (at + 1) n q (not taken && eqb c 92) cs) → (a : Bool) → eqb c 10 ≡ a → (b : Bool) → (not taken && eqb c q) ≡ b → cond a None (cond b (Some at) (enclosed_from (at + 1) q (not taken && eqb c 92) cs)) ≡ Some n → Enclosed at n q taken (c ∷ cs)
+    by rec true e b f h = absurd (let z : None ≡ Some n = h in cc)
+    by rec false e true f h = last f (let z : at ≡ n = cc in z)
+    by rec false e false f h = more e f (rec h)
 
 -- the bytes of a string
 
@@ -95,16 +95,17 @@ pub record Bytes (before result : List ℕ) (chs : List Character) : Type 0 wher
 pub bytes-some : (before result : List ℕ) (chs : List Character) → bytes_from before chs ≡ Some result → Bytes before result chs
 bytes-some before result [] h = record { bytes = []; result_is = (let z : before ≡ result = cc in sym z ∙ sym (append-nil before)); bytes_are = refl }
 bytes-some before result (ch ∷ chs) h = by (λ b. bytes-some (before ++ b ∷ []) result chs) (byte_of ch) refl h
-    where
-      more : (b : ℕ) → byte_of ch ≡ Some b → Bytes (before ++ b ∷ []) result chs → Bytes before result (ch ∷ chs)
-      more b e r = record {
-        bytes = b ∷ r.bytes;
-        result_is = r.result_is ∙ append_assoc before (b ∷ []) r.bytes;
-        bytes_are = (let z = r.bytes_are in let y : byte_of ch ∷ map byte_of chs ≡ Some b ∷ map (λ (b : ℕ). Some b) r.bytes = cc in y);
-      }
-      by : ((b : ℕ) → bytes_from (before ++ b ∷ []) chs ≡ Some result → Bytes (before ++ b ∷ []) result chs) → (o : Option ℕ) → byte_of ch ≡ o → option_and_then (λ b. bytes_from (before ++ b ∷ []) chs) o ≡ Some result → Bytes before result (ch ∷ chs)
-      by rec None e h = absurd (let z : None ≡ Some result = h in cc)
-      by rec (Some b) e h = more b e (rec b h)
+  where
+    more : (b : ℕ) → byte_of ch ≡ Some b → Bytes (before ++ b ∷ []) result chs → Bytes before result (ch ∷ chs)
+    more b e r = record {
+      bytes = b ∷ r.bytes;
+      result_is = r.result_is ∙ append_assoc before (b ∷ []) r.bytes;
+      bytes_are = (let z = r.bytes_are in let y : byte_of ch ∷ map byte_of chs ≡ Some b ∷ map (λ (b : ℕ). Some b) r.bytes = cc in y);
+    }
+
+    by : ((b : ℕ) → bytes_from (before ++ b ∷ []) chs ≡ Some result → Bytes (before ++ b ∷ []) result chs) → (o : Option ℕ) → byte_of ch ≡ o → option_and_then (λ b. bytes_from (before ++ b ∷ []) chs) o ≡ Some result → Bytes before result (ch ∷ chs)
+    by rec None e h = absurd (let z : None ≡ Some result = h in cc)
+    by rec (Some b) e h = more b e (rec b h)
 
 -- wide escapes
 
@@ -116,10 +117,10 @@ wide-escape Character.Unknown h = absurd (false≢true h)
 pub wide-some : (chs : List Character) → list_any is_wide chs ≡ true → (v : ℕ) × Contains chs (Character.Escape v) × (255 < v)
 wide-some [] h = absurd (false≢true h)
 wide-some (ch ∷ chs) h = by (λ g. wide-some chs g) (or_cases (is_wide ch) (list_any is_wide chs) h)
-    where
-      by : (list_any is_wide chs ≡ true → (v : ℕ) × Contains chs (Character.Escape v) × (255 < v)) → (is_wide ch ≡ true) ⊎ (list_any is_wide chs ≡ true) → (v : ℕ) × Contains (ch ∷ chs) (Character.Escape v) × (255 < v)
-      by rec (inl e) = let w = wide-escape ch e in (w.0, (zero, omega arith, w.1), w.2)
-      by rec (inr e) = let w = rec e in (w.0, (suc w.1.0, omega (arith, w.1.1), w.1.2), w.2)
+  where
+    by : (list_any is_wide chs ≡ true → (v : ℕ) × Contains chs (Character.Escape v) × (255 < v)) → (is_wide ch ≡ true) ⊎ (list_any is_wide chs ≡ true) → (v : ℕ) × Contains (ch ∷ chs) (Character.Escape v) × (255 < v)
+    by rec (inl e) = let w = wide-escape ch e in (w.0, (zero, omega arith, w.1), w.2)
+    by rec (inr e) = let w = rec e in (w.0, (suc w.1.0, omega (arith, w.1.1), w.1.2), w.2)
 
 pub wide-any : (chs : List Character) (v : ℕ) → Contains chs (Character.Escape v) → 255 < v → list_any is_wide chs ≡ true
 wide-any [] v m l = absurd (omega (arith, m.1))
@@ -157,33 +158,36 @@ closed-here q n cs h o =
 
 fault-here : (q n : ℕ) (cs : List ℕ) → IsQuote q → enclosed_from 0 q false cs ≡ Some n → (IsUnclosed (q ∷ cs) → (h : IsOpenQuote (q ∷ cs)) × (h.quote ≡ q)) → (IsWide (q ∷ cs) → (h : IsWideQuote (q ∷ cs)) × (h.quote ≡ q)) → HasFault (q ∷ cs) (quote_fault (characters (take n cs)))
 fault-here q n cs i h o w = by (list_any is_wide (characters (take n cs))) refl
-    where
-      closed : IsUnclosed (q ∷ cs) → ⊥
-      closed u = closed-here q n cs h (o u)
-      wide : list_any is_wide (characters (take n cs)) ≡ true → IsWide (q ∷ cs)
-      wide e =
-          let c = enclosed-some 0 n q false cs h in
-          let b = body-here q n cs c.body c.after i h c.xs_is c.inside in
-          let v = wide-some (characters (take n cs)) e in
-          inr (record {
-            quote = q;
-            body = c.body;
-            after = c.after;
-            value = v.0;
-            is_quote = i;
-            here_is = ap (λ (t : List ℕ). q ∷ t) c.xs_is;
-            inside = c.inside;
-            escape = subst (λ body. Contains (characters body) (Character.Escape v.0)) b.1 v.1;
-            wide = v.2;
-          })
-      narrow : list_any is_wide (characters (take n cs)) ≡ false → (x : IsWideQuote (q ∷ cs)) × (x.quote ≡ q) → ⊥
-      narrow e (x, y) =
-          let tail : cs ≡ x.body ++ x.quote ∷ x.after = (let z = x.here_is in cc) in
-          let b = body-here q n cs x.body x.after i h (tail ∙ ap (λ q. x.body ++ q ∷ x.after) y) (ap (λ q. is_inside q false x.body) (sym y) ∙ x.inside) in
-          true≢false (sym (ap (λ t. list_any is_wide (characters t)) b.1 ∙ wide-any (characters x.body) x.value x.escape x.wide) ∙ e)
-      by : (b : Bool) → list_any is_wide (characters (take n cs)) ≡ b → HasFault (q ∷ cs) (cond b fault.Wide fault.Stray)
-      by true e = (closed, wide e)
-      by false e = (closed, λ x. narrow e (w x))
+  where
+    closed : IsUnclosed (q ∷ cs) → ⊥
+    closed u = closed-here q n cs h (o u)
+
+    wide : list_any is_wide (characters (take n cs)) ≡ true → IsWide (q ∷ cs)
+    wide e =
+        let c = enclosed-some 0 n q false cs h in
+        let b = body-here q n cs c.body c.after i h c.xs_is c.inside in
+        let v = wide-some (characters (take n cs)) e in
+        inr (record {
+          quote = q;
+          body = c.body;
+          after = c.after;
+          value = v.0;
+          is_quote = i;
+          here_is = ap (λ (t : List ℕ). q ∷ t) c.xs_is;
+          inside = c.inside;
+          escape = subst (λ body. Contains (characters body) (Character.Escape v.0)) b.1 v.1;
+          wide = v.2;
+        })
+
+    narrow : list_any is_wide (characters (take n cs)) ≡ false → (x : IsWideQuote (q ∷ cs)) × (x.quote ≡ q) → ⊥
+    narrow e (x, y) =
+        let tail : cs ≡ x.body ++ x.quote ∷ x.after = (let z = x.here_is in cc) in
+        let b = body-here q n cs x.body x.after i h (tail ∙ ap (λ q. x.body ++ q ∷ x.after) y) (ap (λ q. is_inside q false x.body) (sym y) ∙ x.inside) in
+        true≢false (sym (ap (λ t. list_any is_wide (characters t)) b.1 ∙ wide-any (characters x.body) x.value x.escape x.wide) ∙ e)
+
+    by : (b : Bool) → list_any is_wide (characters (take n cs)) ≡ b → HasFault (q ∷ cs) (cond b fault.Wide fault.Stray)
+    by true e = (closed, wide e)
+    by false e = (closed, λ x. narrow e (w x))
 
 length-literal : (q : ℕ) (body t : List ℕ) → t ≡ q ∷ (body ++ q ∷ []) → length t ≡ length body + 2
 length-literal q body t e = omega (arith, ap length e, length-append body (q ∷ []))
@@ -205,39 +209,46 @@ wide-string cs e u = subst (λ s. WideAs s (34 ∷ cs)) e (wide-sort (34 ∷ cs)
 right-string : (before cs : List ℕ) → sort_of (34 ∷ cs) ≡ Sort.String → IsRight before (34 ∷ cs) (scan_string cs)
 unfolding scan_string
 right-string before cs e = by (enclosed_from 0 34 false cs) refl
-    where
-      all : (t a : List ℕ) (p : Option TokenKind) → t ++ a ≡ 34 ∷ cs → IsPiece before t a p → (bytes : List ℕ) × IsString t bytes × (p ≡ Some (kind.Str bytes))
-      all t a p g h = sorted Sort.String before (34 ∷ cs) t a p e g h
-      body : (n : ℕ) → enclosed_from 0 34 false cs ≡ Some n → (t a bytes : List ℕ) → t ++ a ≡ 34 ∷ cs → IsString t bytes → (length t ≡ n + 2) × (bytes_from [] (characters (take n cs)) ≡ Some bytes)
-      body n f t a bytes g s =
-          let b = body-here 34 n cs s.body a (inr refl) f (tail-literal 34 34 cs s.body t a s.text_is g) s.inside in
-          ((let l = length-literal 34 s.body t s.text_is in omega (arith, l, b.0)),
-          ap (λ t. bytes_from [] (characters t)) b.1 ∙ bytes-here [] bytes (characters s.body) s.bytes_are)
-      best : (n : ℕ) → (f : enclosed_from 0 34 false cs ≡ Some n) → (bytes : List ℕ) → bytes_from [] (characters (take n cs)) ≡ Some bytes → Best before (34 ∷ cs) (n + 2) (Some (kind.Str bytes))
-      best n f bytes h =
-          let c = enclosed-some 0 n 34 false cs f in
-          let b = body-here 34 n cs c.body c.after (inr refl) f c.xs_is c.inside in
-          let r = bytes-some [] bytes (characters c.body) (ap (λ t. bytes_from [] (characters t)) (sym b.1) ∙ h) in
-          let l : length (34 ∷ (c.body ++ 34 ∷ [])) ≡ n + 2 = (let l = length-literal 34 c.body (34 ∷ (c.body ++ 34 ∷ [])) refl in omega (arith, l, b.0)) in
-          subst (λ n. Best before (34 ∷ cs) n (Some (kind.Str bytes))) l
-          (only before (34 ∷ cs) (34 ∷ (c.body ++ 34 ∷ [])) c.after (Some (kind.Str bytes)) (ap (λ (t : List ℕ). 34 ∷ t) (append_assoc c.body (34 ∷ []) c.after ∙ sym c.xs_is)) (omega arith)
-          (record { body = c.body; text_is = refl; inside = c.inside; bytes_are = r.bytes_are ∙ ap (λ t. map (λ (b : ℕ). Some b) t) (sym r.result_is) })
-          (λ u b p g q.
-            let w = all u b p g q in
-            let k = body n f u b w.0 g w.1 in
-            (k.0 ∙ sym l, w.2 ∙ ap (λ t. Some (kind.Str t)) (let z : Some w.0 ≡ Some bytes = sym k.1 ∙ h in let y : w.0 ≡ bytes = cc in y))))
-      piece : (n : ℕ) → enclosed_from 0 34 false cs ≡ Some n → (o : Option (List ℕ)) → bytes_from [] (characters (take n cs)) ≡ o → IsRight before (34 ∷ cs) (string_piece n (characters (take n cs)) o)
-      piece n f None h =
-          ((λ t a p g q. let w = all t a p g q in let z : None ≡ Some w.0 = sym h ∙ (body n f t a w.0 g w.1).1 in cc),
-          fault-here 34 n cs (inr refl) f (unclosed-string cs e) (wide-string cs e))
-      piece n f (Some bytes) h = best n f bytes h
-      by : (o : Option ℕ) → enclosed_from 0 34 false cs ≡ o → IsRight before (34 ∷ cs) (string_of cs o)
-      by None f =
-          ((λ t a p g q.
-            let w = all t a p g q in
-            let z : None ≡ Some (0 + length w.1.body) = sym f ∙ ap (enclosed_from 0 34 false) (tail-literal 34 34 cs w.1.body t a w.1.text_is g) ∙ enclosed-here 0 34 false w.1.body a refl w.1.inside in cc),
-          inr (open-here 34 cs (inr refl) f))
-      by (Some n) f = piece n f (bytes_from [] (characters (take n cs))) refl
+  where
+    all : (t a : List ℕ) (p : Option TokenKind) → t ++ a ≡ 34 ∷ cs → IsPiece before t a p → (bytes : List ℕ) × IsString t bytes × (p ≡ Some (kind.Str bytes))
+    all t a p g h = sorted Sort.String before (34 ∷ cs) t a p e g h
+
+    body : (n : ℕ) → enclosed_from 0 34 false cs ≡ Some n → (t a bytes : List ℕ) → t ++ a ≡ 34 ∷ cs → IsString t bytes → (length t ≡ n + 2) × (bytes_from [] (characters (take n cs)) ≡ Some bytes)
+    body n f t a bytes g s =
+        let b = body-here 34 n cs s.body a (inr refl) f (tail-literal 34 34 cs s.body t a s.text_is g) s.inside in (
+          (let l = length-literal 34 s.body t s.text_is in omega (arith, l, b.0)),
+          ap (λ t. bytes_from [] (characters t)) b.1 ∙ bytes-here [] bytes (characters s.body) s.bytes_are,
+        )
+
+    best : (n : ℕ) → (f : enclosed_from 0 34 false cs ≡ Some n) → (bytes : List ℕ) → bytes_from [] (characters (take n cs)) ≡ Some bytes → Best before (34 ∷ cs) (n + 2) (Some (kind.Str bytes))
+    best n f bytes h =
+        let c = enclosed-some 0 n 34 false cs f in
+        let b = body-here 34 n cs c.body c.after (inr refl) f c.xs_is c.inside in
+        let r = bytes-some [] bytes (characters c.body) (ap (λ t. bytes_from [] (characters t)) (sym b.1) ∙ h) in
+        let l : length (34 ∷ (c.body ++ 34 ∷ [])) ≡ n + 2 = (let l = length-literal 34 c.body (34 ∷ (c.body ++ 34 ∷ [])) refl in omega (arith, l, b.0)) in
+        subst (λ n. Best before (34 ∷ cs) n (Some (kind.Str bytes))) l
+        (only before (34 ∷ cs) (34 ∷ (c.body ++ 34 ∷ [])) c.after (Some (kind.Str bytes)) (ap (λ (t : List ℕ). 34 ∷ t) (append_assoc c.body (34 ∷ []) c.after ∙ sym c.xs_is)) (omega arith)
+        (record { body = c.body; text_is = refl; inside = c.inside; bytes_are = r.bytes_are ∙ ap (λ t. map (λ (b : ℕ). Some b) t) (sym r.result_is) })
+        (λ u b p g q.
+        let w = all u b p g q in
+        let k = body n f u b w.0 g w.1 in
+        (k.0 ∙ sym l, w.2 ∙ ap (λ t. Some (kind.Str t)) (let z : Some w.0 ≡ Some bytes = sym k.1 ∙ h in let y : w.0 ≡ bytes = cc in y))))
+
+    piece : (n : ℕ) → enclosed_from 0 34 false cs ≡ Some n → (o : Option (List ℕ)) → bytes_from [] (characters (take n cs)) ≡ o → IsRight before (34 ∷ cs) (string_piece n (characters (take n cs)) o)
+    piece n f None h = (
+      (λ t a p g q. let w = all t a p g q in let z : None ≡ Some w.0 = sym h ∙ (body n f t a w.0 g w.1).1 in cc),
+      fault-here 34 n cs (inr refl) f (unclosed-string cs e) (wide-string cs e),
+    )
+    piece n f (Some bytes) h = best n f bytes h
+
+    by : (o : Option ℕ) → enclosed_from 0 34 false cs ≡ o → IsRight before (34 ∷ cs) (string_of cs o)
+    by None f = (
+      (λ t a p g q.
+          let w = all t a p g q in
+          let z : None ≡ Some (0 + length w.1.body) = sym f ∙ ap (enclosed_from 0 34 false) (tail-literal 34 34 cs w.1.body t a w.1.text_is g) ∙ enclosed-here 0 34 false w.1.body a refl w.1.inside in cc),
+      inr (open-here 34 cs (inr refl) f),
+    )
+    by (Some n) f = piece n f (bytes_from [] (characters (take n cs))) refl
 
 pub string-right : (before : List ℕ) (c : ℕ) (cs : List ℕ) → sort_of (c ∷ cs) ≡ Sort.String → IsRight before (c ∷ cs) (scan_string cs)
 string-right before c cs e =
@@ -265,39 +276,46 @@ only-some (ch ∷ other ∷ chs) value h = absurd (let z : None ≡ Some value =
 right-character : (before cs : List ℕ) → sort_of (39 ∷ cs) ≡ Sort.Character → IsRight before (39 ∷ cs) (scan_character cs)
 unfolding scan_character
 right-character before cs e = by (enclosed_from 0 39 false cs) refl
-    where
-      all : (t a : List ℕ) (p : Option TokenKind) → t ++ a ≡ 39 ∷ cs → IsPiece before t a p → (value : ℤ) × (ty : IntType) × IsCharacter t value ty × (p ≡ Some (kind.Number value ty))
-      all t a p g h = sorted Sort.Character before (39 ∷ cs) t a p e g h
-      body : (n : ℕ) → enclosed_from 0 39 false cs ≡ Some n → (t a : List ℕ) (value : ℤ) (ty : IntType) → t ++ a ≡ 39 ∷ cs → IsCharacter t value ty → (length t ≡ n + 2) × (only_value (characters (take n cs)) ≡ Some value)
-      body n f t a value ty g s =
-          let b = body-here 39 n cs s.body a (inl refl) f (tail-literal 39 39 cs s.body t a s.text_is g) s.inside in
-          ((let l = length-literal 39 s.body t s.text_is in omega (arith, l, b.0)),
-          ap (λ t. only_value (characters t)) b.1 ∙ ap only_value s.one ∙ s.value_is)
-      best : (n : ℕ) → (f : enclosed_from 0 39 false cs ≡ Some n) → (value : ℤ) → only_value (characters (take n cs)) ≡ Some value → Best before (39 ∷ cs) (n + 2) (Some (kind.Number value Int))
-      best n f value h =
-          let c = enclosed-some 0 n 39 false cs f in
-          let b = body-here 39 n cs c.body c.after (inl refl) f c.xs_is c.inside in
-          let r = only-some (characters c.body) value (ap (λ t. only_value (characters t)) (sym b.1) ∙ h) in
-          let l : length (39 ∷ (c.body ++ 39 ∷ [])) ≡ n + 2 = (let l = length-literal 39 c.body (39 ∷ (c.body ++ 39 ∷ [])) refl in omega (arith, l, b.0)) in
-          subst (λ n. Best before (39 ∷ cs) n (Some (kind.Number value Int))) l
-          (only before (39 ∷ cs) (39 ∷ (c.body ++ 39 ∷ [])) c.after (Some (kind.Number value Int)) (ap (λ (t : List ℕ). 39 ∷ t) (append_assoc c.body (39 ∷ []) c.after ∙ sym c.xs_is)) (omega arith)
-          (inr (record { body = c.body; character = r.character; text_is = refl; inside = c.inside; one = r.chs_are; value_is = r.value_is; type_is = refl }))
-          (λ u b p g q.
-            let w = all u b p g q in
-            let k = body n f u b w.0 w.1 g w.2 in
-            (k.0 ∙ sym l, w.3 ∙ ap (λ v. Some (kind.Number v w.1)) (let z : Some w.0 ≡ Some value = sym k.1 ∙ h in let y : w.0 ≡ value = cc in y) ∙ ap (λ t. Some (kind.Number value t)) w.2.type_is)))
-      piece : (n : ℕ) → enclosed_from 0 39 false cs ≡ Some n → (o : Option ℤ) → only_value (characters (take n cs)) ≡ o → IsRight before (39 ∷ cs) (character_piece n (characters (take n cs)) o)
-      piece n f None h =
-          ((λ t a p g q. let w = all t a p g q in let z : None ≡ Some w.0 = sym h ∙ (body n f t a w.0 w.1 g w.2).1 in cc),
-          fault-here 39 n cs (inl refl) f (unclosed-character cs e) (wide-character cs e))
-      piece n f (Some value) h = best n f value h
-      by : (o : Option ℕ) → enclosed_from 0 39 false cs ≡ o → IsRight before (39 ∷ cs) (character_of cs o)
-      by None f =
-          ((λ t a p g q.
-            let w = all t a p g q in
-            let z : None ≡ Some (0 + length w.2.body) = sym f ∙ ap (enclosed_from 0 39 false) (tail-literal 39 39 cs w.2.body t a w.2.text_is g) ∙ enclosed-here 0 39 false w.2.body a refl w.2.inside in cc),
-          inr (open-here 39 cs (inl refl) f))
-      by (Some n) f = piece n f (only_value (characters (take n cs))) refl
+  where
+    all : (t a : List ℕ) (p : Option TokenKind) → t ++ a ≡ 39 ∷ cs → IsPiece before t a p → (value : ℤ) × (ty : IntType) × IsCharacter t value ty × (p ≡ Some (kind.Number value ty))
+    all t a p g h = sorted Sort.Character before (39 ∷ cs) t a p e g h
+
+    body : (n : ℕ) → enclosed_from 0 39 false cs ≡ Some n → (t a : List ℕ) (value : ℤ) (ty : IntType) → t ++ a ≡ 39 ∷ cs → IsCharacter t value ty → (length t ≡ n + 2) × (only_value (characters (take n cs)) ≡ Some value)
+    body n f t a value ty g s =
+        let b = body-here 39 n cs s.body a (inl refl) f (tail-literal 39 39 cs s.body t a s.text_is g) s.inside in (
+          (let l = length-literal 39 s.body t s.text_is in omega (arith, l, b.0)),
+          ap (λ t. only_value (characters t)) b.1 ∙ ap only_value s.one ∙ s.value_is,
+        )
+
+    best : (n : ℕ) → (f : enclosed_from 0 39 false cs ≡ Some n) → (value : ℤ) → only_value (characters (take n cs)) ≡ Some value → Best before (39 ∷ cs) (n + 2) (Some (kind.Number value Int))
+    best n f value h =
+        let c = enclosed-some 0 n 39 false cs f in
+        let b = body-here 39 n cs c.body c.after (inl refl) f c.xs_is c.inside in
+        let r = only-some (characters c.body) value (ap (λ t. only_value (characters t)) (sym b.1) ∙ h) in
+        let l : length (39 ∷ (c.body ++ 39 ∷ [])) ≡ n + 2 = (let l = length-literal 39 c.body (39 ∷ (c.body ++ 39 ∷ [])) refl in omega (arith, l, b.0)) in
+        subst (λ n. Best before (39 ∷ cs) n (Some (kind.Number value Int))) l
+        (only before (39 ∷ cs) (39 ∷ (c.body ++ 39 ∷ [])) c.after (Some (kind.Number value Int)) (ap (λ (t : List ℕ). 39 ∷ t) (append_assoc c.body (39 ∷ []) c.after ∙ sym c.xs_is)) (omega arith)
+        (inr (record { body = c.body; character = r.character; text_is = refl; inside = c.inside; one = r.chs_are; value_is = r.value_is; type_is = refl }))
+        (λ u b p g q.
+        let w = all u b p g q in
+        let k = body n f u b w.0 w.1 g w.2 in
+        (k.0 ∙ sym l, w.3 ∙ ap (λ v. Some (kind.Number v w.1)) (let z : Some w.0 ≡ Some value = sym k.1 ∙ h in let y : w.0 ≡ value = cc in y) ∙ ap (λ t. Some (kind.Number value t)) w.2.type_is)))
+
+    piece : (n : ℕ) → enclosed_from 0 39 false cs ≡ Some n → (o : Option ℤ) → only_value (characters (take n cs)) ≡ o → IsRight before (39 ∷ cs) (character_piece n (characters (take n cs)) o)
+    piece n f None h = (
+      (λ t a p g q. let w = all t a p g q in let z : None ≡ Some w.0 = sym h ∙ (body n f t a w.0 w.1 g w.2).1 in cc),
+      fault-here 39 n cs (inl refl) f (unclosed-character cs e) (wide-character cs e),
+    )
+    piece n f (Some value) h = best n f value h
+
+    by : (o : Option ℕ) → enclosed_from 0 39 false cs ≡ o → IsRight before (39 ∷ cs) (character_of cs o)
+    by None f = (
+      (λ t a p g q.
+          let w = all t a p g q in
+          let z : None ≡ Some (0 + length w.2.body) = sym f ∙ ap (enclosed_from 0 39 false) (tail-literal 39 39 cs w.2.body t a w.2.text_is g) ∙ enclosed-here 0 39 false w.2.body a refl w.2.inside in cc),
+      inr (open-here 39 cs (inl refl) f),
+    )
+    by (Some n) f = piece n f (only_value (characters (take n cs))) refl
 
 pub character-right : (before : List ℕ) (c : ℕ) (cs : List ℕ) → sort_of (c ∷ cs) ≡ Sort.Character → IsRight before (c ∷ cs) (scan_character cs)
 character-right before c cs e =

@@ -1,5 +1,5 @@
 -- The scan takes the longest piece or tells the fault, and so the pieces of a text are determined.
-use Rattle.std.proofs.Common.{◌≡◌, ℕ, suc, ◌+◌, ◌<◌, ◌≤◌, ◌⊎◌, inl, inr, List, [], ◌∷◌, ◌++◌, length, get_or, take, drop, Bool, true, false, cond, Option, None, Some, Result, Ok, Err, refl, arith, ◌∙◌, ap, sym, subst}
+use Rattle.std.proofs.Common.{◌≡◌, ℕ, ◌+◌, ◌<◌, ◌≤◌, ◌⊎◌, inl, inr, List, [], ◌∷◌, ◌++◌, length, get_or, take, drop, Bool, Option, Result, Ok, Err, refl, arith, ◌∙◌, ap, sym, subst}
 use Rattle.std.proofs.lemmas.List.{take-append-drop, append_assoc, length-append, append-nil, length-take-le, append_cancel_left, take_all, drop_all, drop_more, take-take, drop-take, drop-drop, length-drop}
 use Rattle.std.specs.List.{list_all}
 use Rattle.ob_tree.specs.Bytes.{is_blank}
@@ -15,7 +15,7 @@ use Rattle.ob_lexer.specs.declared.taken.Taken.{Taken}
 use Rattle.ob_lexer.specs.declared.scanner.Sort.{Sort}
 use Rattle.ob_lexer.specs.Scan.{sort_of, scan_sort, scan}
 use Rattle.ob_lexer.specs.Texts.{Piece, text_of, AreLongest, tokens_of, token_of, Spells, StopsAt, HasLexFault, fault_of}
-use Rattle.ob_lexer.proofs.Prefixes.{take-here, drop-here, same-here, length-here}
+use Rattle.ob_lexer.proofs.Prefixes.{same-here}
 use Rattle.ob_lexer.proofs.Taking.{Best, IsRight, sorted, white-right}
 use Rattle.ob_lexer.proofs.SignPieces.{sign-right, sign-some}
 use Rattle.ob_lexer.proofs.NamePieces.{name-right}
@@ -62,24 +62,27 @@ best-longest before rest n k b = record {
 -- the longest piece at a place is one piece
 pub longest-same : (before : List ℕ) (t a u b : List ℕ) (p q : Option TokenKind) → t ++ a ≡ u ++ b → IsLongest before t a p → IsLongest before u b q → (t ≡ u) × (p ≡ q)
 longest-same before t a u b p q e g h = by (t ++ a) refl
-    where
-      l : length t ≡ length u
-      l = (let m = g.longest u b q (sym e) h.possible in let n = h.longest t a p e g.possible in omega (arith, m, n))
-      same : t ≡ u
-      same = same-here t a u b (u ++ b) e refl l
-      kinds : (rest : List ℕ) → t ++ a ≡ rest → IsRight before rest (scan (is_fresh before) rest) → p ≡ q
-      kinds rest f r = at (scan (is_fresh before) rest) r
-          where
-            at : (s : Result Taken LexKind) → IsRight before rest s → p ≡ q
-            at (Err k) r = absurd (r.0 t a p f g.possible)
-            at (Ok w) r =
-                let n : length t ≤ w.length = r.most t a p f g.possible in
-                let v = g.longest (take w.length rest) (drop w.length rest) w.kind (take-append-drop w.length rest ∙ sym f) r.possible in
-                let i : length t ≡ w.length = (let k = r.within in omega (arith, n, v, length-take-le w.length rest k)) in
-                r.same t a p f g.possible i ∙ sym (r.same u b q (sym e ∙ f) h.possible (sym l ∙ i))
-      by : (rest : List ℕ) → t ++ a ≡ rest → (t ≡ u) × (p ≡ q)
-      by [] f = absurd (piece-some before t a p f g.possible)
-      by (c ∷ cs) f = (same, kinds (c ∷ cs) f (scan-right before c cs (is_fresh before) refl))
+  where
+    l : length t ≡ length u
+    l = (let m = g.longest u b q (sym e) h.possible in let n = h.longest t a p e g.possible in omega (arith, m, n))
+
+    same : t ≡ u
+    same = same-here t a u b (u ++ b) e refl l
+
+    kinds : (rest : List ℕ) → t ++ a ≡ rest → IsRight before rest (scan (is_fresh before) rest) → p ≡ q
+    kinds rest f r = at (scan (is_fresh before) rest) r
+      where
+        at : (s : Result Taken LexKind) → IsRight before rest s → p ≡ q
+        at (Err k) r = absurd (r.0 t a p f g.possible)
+        at (Ok w) r =
+            let n : length t ≤ w.length = r.most t a p f g.possible in
+            let v = g.longest (take w.length rest) (drop w.length rest) w.kind (take-append-drop w.length rest ∙ sym f) r.possible in
+            let i : length t ≡ w.length = (let k = r.within in omega (arith, n, v, length-take-le w.length rest k)) in
+            r.same t a p f g.possible i ∙ sym (r.same u b q (sym e ∙ f) h.possible (sym l ∙ i))
+
+    by : (rest : List ℕ) → t ++ a ≡ rest → (t ≡ u) × (p ≡ q)
+    by [] f = absurd (piece-some before t a p f g.possible)
+    by (c ∷ cs) f = (same, kinds (c ∷ cs) f (scan-right before c cs (is_fresh before) refl))
 
 -- runs of longest pieces
 
@@ -99,9 +102,9 @@ run-same before (p ∷ ps) (q ∷ qs) a b g h s r e =
     let one = longest-same before p.text (text_of ps ++ a) q.text (text_of qs ++ b) p.token q.token split g.0 h.0 in
     let rest : text_of ps ++ a ≡ text_of qs ++ b = append_cancel_left p.text (text_of ps ++ a) (text_of qs ++ b) (split ∙ ap (λ t. t ++ (text_of qs ++ b)) (sym one.0)) in
     let more : ps ≡ qs =
-        run-same (before ++ p.text) ps qs a b g.1 (subst (λ t. AreLongest (before ++ t) qs b) (sym one.0) h.1)
-        (subst (λ x. IsStuck x a) (sym (append_assoc before p.text (text_of ps))) s)
-        (subst (λ x. IsStuck x b) (sym (append_assoc before q.text (text_of qs)) ∙ ap (λ t. (before ++ t) ++ text_of qs) (sym one.0)) r) rest in
+    run-same (before ++ p.text) ps qs a b g.1 (subst (λ t. AreLongest (before ++ t) qs b) (sym one.0) h.1)
+    (subst (λ x. IsStuck x a) (sym (append_assoc before p.text (text_of ps))) s)
+    (subst (λ x. IsStuck x b) (sym (append_assoc before q.text (text_of qs)) ∙ ap (λ t. (before ++ t) ++ text_of qs) (sym one.0)) r) rest in
     ap (λ (x : Piece). x ∷ ps) (same-piece p q one.0 one.1) ∙ ap (λ (xs : List Piece). q ∷ xs) more
 
 nothing-left : (before : List ℕ) → IsStuck before []
@@ -150,9 +153,10 @@ text_of-push (q ∷ ps) p = ap (λ t. q.text ++ t) (text_of-push ps p) ∙ sym (
 
 longest-push : (before : List ℕ) (ps : List Piece) (p : Piece) (after : List ℕ) → AreLongest before ps (p.text ++ after) → IsLongest (before ++ text_of ps) p.text after p.token → AreLongest before (ps ++ p ∷ []) after
 longest-push before [] p after g h = (subst (λ x. IsLongest x p.text after p.token) (append-nil before) h, tt)
-longest-push before (q ∷ ps) p after g h =
-    (subst (λ x. IsLongest before q.text x q.token) (sym (ap (λ t. t ++ after) (text_of-push ps p) ∙ append_assoc (text_of ps) p.text after)) g.0,
-    longest-push (before ++ q.text) ps p after g.1 (subst (λ x. IsLongest x p.text after p.token) (sym (append_assoc before q.text (text_of ps))) h))
+longest-push before (q ∷ ps) p after g h = (
+  subst (λ x. IsLongest before q.text x q.token) (sym (ap (λ t. t ++ after) (text_of-push ps p) ∙ append_assoc (text_of ps) p.text after)) g.0,
+  longest-push (before ++ q.text) ps p after g.1 (subst (λ x. IsLongest x p.text after p.token) (sym (append_assoc before q.text (text_of ps))) h),
+)
 
 tokens_of-push : (before : List ℕ) (ps : List Piece) (p : Piece) → tokens_of before (ps ++ p ∷ []) ≡ tokens_of before ps ++ token_of (before ++ text_of ps) p.text p.token
 tokens_of-push before [] p = append-nil (token_of before p.text p.token) ∙ ap (λ b. token_of b p.text p.token) (sym (append-nil before))

@@ -1,7 +1,7 @@
 -- Punctuators.
-use Rattle.std.proofs.Common.{◌≡◌, ℕ, suc, ◌+◌, ◌<◌, ◌≤◌, ◌⊎◌, inl, inr, List, [], ◌∷◌, ◌++◌, length, take, drop, Bool, true, false, cond, ◌&&◌, eqb, Option, None, Some, Result, Ok, Err, refl, arith, ◌∙◌, ap, sym, subst, lit≤}
-use Rattle.std.proofs.lemmas.Bool.{and_parts, and_from, false≢true}
-use Rattle.std.proofs.lemmas.List.{take-append-drop, length-take-le}
+use Rattle.std.proofs.Common.{◌≡◌, ℕ, ◌≤◌, inl, inr, List, [], ◌∷◌, ◌++◌, length, take, drop, Bool, true, false, cond, eqb, Option, None, Some, Err, refl, arith, ◌∙◌, ap, sym, lit≤}
+use Rattle.std.proofs.lemmas.Bool.{and_parts, false≢true}
+use Rattle.std.proofs.lemmas.List.{take-append-drop}
 use Rattle.std.specs.List.{find}
 use Rattle.std.specs.Str.{bytes_eq}
 use Rattle.ob_tree.specs.Bytes.{begins_with, is_digit}
@@ -14,7 +14,7 @@ use Rattle.ob_tree.specs.declared.tokens.Sign.TheVariants as sign
 use Rattle.ob_tree.specs.declared.faults.LexKind.TheVariants as fault
 use Rattle.ob_lexer.specs.declared.scanner.Sort.{Sort}
 use Rattle.ob_lexer.specs.Scan.{sort_of, signs, begins_sign, sign_at, is_fraction, sign_piece, scan_sign}
-use Rattle.ob_lexer.proofs.Prefixes.{take-here, drop-here, same-here, length-here, bytes_eq-same, bytes_eq-refl, find-true}
+use Rattle.ob_lexer.proofs.Prefixes.{take-here, same-here, length-here, bytes_eq-same, bytes_eq-refl, find-true}
 use Rattle.ob_lexer.proofs.Tables.{Among, falls, find-among, find-greatest}
 use Rattle.ob_lexer.proofs.Taking.{Best, IsRight, sorted, first-as, no-unclosed, no-wide}
 
@@ -257,11 +257,11 @@ found-right before c cs s e n f =
         no_fraction = λ dot h. false≢true (sym n ∙ sym (ap is_fraction here) ∙ ap (λ r. is_fraction (sign_text r ++ drop (length (sign_text s)) rest)) dot ∙ digit-fraction (drop (length (sign_text s)) rest) h);
       };
       most = λ t a p g h. let w = sorted Sort.Sign before rest t a p e g h in
-        let g' : sign_text w.0 ++ a ≡ rest = ap (λ u. u ++ a) (sym w.1.text_is) ∙ g in
-        omega (arith, ap length w.1.text_is, find-greatest (λ s. length (sign_text s)) (begins_sign rest) w.0 s signs signs-fall (all-signs w.0) (begins-here w.0 a rest g') f);
+          let g' : sign_text w.0 ++ a ≡ rest = ap (λ u. u ++ a) (sym w.1.text_is) ∙ g in
+          omega (arith, ap length w.1.text_is, find-greatest (λ s. length (sign_text s)) (begins_sign rest) w.0 s signs signs-fall (all-signs w.0) (begins-here w.0 a rest g') f);
       same = λ t a p g h l. let w = sorted Sort.Sign before rest t a p e g h in
-        let g' : sign_text w.0 ++ a ≡ rest = ap (λ u. u ++ a) (sym w.1.text_is) ∙ g in
-        w.2 ∙ ap (λ r. Some (kind.Sign r)) (same-sign w.0 s (same-here (sign_text w.0) a (sign_text s) _ rest g' here (sym (ap length w.1.text_is) ∙ l)));
+          let g' : sign_text w.0 ++ a ≡ rest = ap (λ u. u ++ a) (sym w.1.text_is) ∙ g in
+          w.2 ∙ ap (λ r. Some (kind.Sign r)) (same-sign w.0 s (same-here (sign_text w.0) a (sign_text s) _ rest g' here (sym (ap length w.1.text_is) ∙ l)));
     }
 
 none-stuck : (before : List ℕ) (c : ℕ) (cs : List ℕ) → sort_of (c ∷ cs) ≡ Sort.Sign → sign_at (c ∷ cs) ≡ None → (t a : List ℕ) (p : Option TokenKind) → t ++ a ≡ c ∷ cs → IsPiece before t a p → ⊥
@@ -274,10 +274,11 @@ none-stuck before c cs e f t a p g h =
 pub sign-right : (before : List ℕ) (c : ℕ) (cs : List ℕ) → sort_of (c ∷ cs) ≡ Sort.Sign → IsRight before (c ∷ cs) (scan_sign (c ∷ cs))
 unfolding scan_sign
 sign-right before c cs e = by (is_fraction (c ∷ cs)) refl (sign_at (c ∷ cs)) refl
-    where
-      stray : (IsStuck before (c ∷ cs)) → IsStuck before (c ∷ cs) × HasFault (c ∷ cs) fault.Stray
-      stray s = (s, (no-unclosed Sort.Sign (c ∷ cs) e (λ z. z), no-wide Sort.Sign (c ∷ cs) e (λ z. z)))
-      by : (b : Bool) → is_fraction (c ∷ cs) ≡ b → (o : Option Sign) → sign_at (c ∷ cs) ≡ o → IsRight before (c ∷ cs) (cond b (Err fault.Stray) (sign_piece o))
-      by true h o f = stray (λ t a p g q. let w = sorted Sort.Sign before (c ∷ cs) t a p e g q in fraction-stuck t a w.0 w.1 (ap is_fraction g ∙ h))
-      by false h None f = stray (none-stuck before c cs e f)
-      by false h (Some s) f = found-right before c cs s e h f
+  where
+    stray : (IsStuck before (c ∷ cs)) → IsStuck before (c ∷ cs) × HasFault (c ∷ cs) fault.Stray
+    stray s = (s, (no-unclosed Sort.Sign (c ∷ cs) e (λ z. z), no-wide Sort.Sign (c ∷ cs) e (λ z. z)))
+
+    by : (b : Bool) → is_fraction (c ∷ cs) ≡ b → (o : Option Sign) → sign_at (c ∷ cs) ≡ o → IsRight before (c ∷ cs) (cond b (Err fault.Stray) (sign_piece o))
+    by true h o f = stray (λ t a p g q. let w = sorted Sort.Sign before (c ∷ cs) t a p e g q in fraction-stuck t a w.0 w.1 (ap is_fraction g ∙ h))
+    by false h None f = stray (none-stuck before c cs e f)
+    by false h (Some s) f = found-right before c cs s e h f

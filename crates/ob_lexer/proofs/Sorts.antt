@@ -1,13 +1,13 @@
 -- Each piece begins with what its sort says.
-use Rattle.std.proofs.Common.{◌≡◌, ℕ, zero, suc, ◌+◌, ◌<◌, ◌≤◌, ◌⊎◌, inl, inr, List, [], ◌∷◌, ◌++◌, length, take, drop, Bool, true, false, cond, ◌&&◌, ◌||◌, eqb, leb, Option, None, Some, ℤ, refl, arith, ◌∙◌, ap, sym, subst}
-use Rattle.std.proofs.lemmas.Bool.{and_parts, and_from, false_from_ne_true, cond_both, eqb-true, le-leb}
+use Rattle.std.proofs.Common.{◌≡◌, ℕ, ◌⊎◌, inl, inr, List, [], ◌∷◌, ◌++◌, Bool, true, false, eqb, leb, Option, None, Some, ℤ, refl, arith, ◌∙◌, ap, sym, subst}
+use Rattle.std.proofs.lemmas.Bool.{and_from, false_from_ne_true, cond_both, eqb-true, le-leb}
 use Rattle.std.proofs.lemmas.List.{append_assoc}
-use Rattle.ob_tree.specs.Bytes.{is_white, is_letter, is_digit, is_within, is_nonzero_digit, is_octal_digit, is_hex_digit, begins_with}
+use Rattle.ob_tree.specs.Bytes.{is_white, is_letter, is_digit, is_nonzero_digit, begins_with}
 use Rattle.ob_tree.specs.Words.{word_text, IsQualifier, IsName}
 use Rattle.ob_tree.specs.Signs.{sign_text, begins_comment, IsSign}
 use Rattle.ob_tree.specs.Constants.{IsNumber, IsConstant, IsDigits, IsWideConstant}
 use Rattle.ob_tree.specs.Characters.{IsCharacter, IsString, IsOpenQuote, IsWideQuote, IsQuote}
-use Rattle.ob_tree.specs.Spaces.{IsComment, IsBlockComment, IsLineComment, IsInclude, IsOpenComment}
+use Rattle.ob_tree.specs.Spaces.{IsComment, IsInclude, IsOpenComment}
 use Rattle.ob_tree.specs.Pieces.{IsPiece, IsSpace, IsToken, IsWhite, IsUnclosed, IsWide}
 use Rattle.ob_tree.specs.declared.tokens.TokenKind.{TokenKind}
 use Rattle.ob_tree.specs.declared.tokens.TokenKind.TheVariants as kind
@@ -191,8 +191,8 @@ digits-sort Base.Octal t ds a h =
     (begins-sort (λ c. eqb c 48) Sort.Number ds a (λ c cs e. digit-sort c cs (zero-digit c e)) h.1)
 digits-sort Base.Hexadecimal t ds a h =
     elim h.0 [
-      inl e ↦ subst (λ u. sort_of (u ++ a) ≡ Sort.Number) (sym e) (hex-sort (120 ∷ (ds ++ a)))
-    | inr e ↦ subst (λ u. sort_of (u ++ a) ≡ Sort.Number) (sym e) (hex-sort (88 ∷ (ds ++ a)))
+      | inl e ↦ subst (λ u. sort_of (u ++ a) ≡ Sort.Number) (sym e) (hex-sort (120 ∷ (ds ++ a)))
+      | inr e ↦ subst (λ u. sort_of (u ++ a) ≡ Sort.Number) (sym e) (hex-sort (88 ∷ (ds ++ a)))
     ]
 
 pub constant-sort : (t a : List ℕ) (b : Base) (s : Suffix) (v : ℕ) → IsConstant t b s v → sort_of (t ++ a) ≡ Sort.Number
@@ -266,8 +266,8 @@ unclosed-sort here (inl h) =
     subst (λ s. UnclosedAs s here) (sym (ap sort_of h.here_is ∙ open-comment-sort h.rest)) h
 unclosed-sort here (inr h) =
     elim (quote-sort h.quote h.rest h.is_quote) [
-      inl e ↦ subst (λ s. UnclosedAs s here) (sym (ap sort_of h.here_is ∙ e.1)) (h, e.0)
-    | inr e ↦ subst (λ s. UnclosedAs s here) (sym (ap sort_of h.here_is ∙ e.1)) (h, e.0)
+      | inl e ↦ subst (λ s. UnclosedAs s here) (sym (ap sort_of h.here_is ∙ e.1)) (h, e.0)
+      | inr e ↦ subst (λ s. UnclosedAs s here) (sym (ap sort_of h.here_is ∙ e.1)) (h, e.0)
     ]
 
 -- what is too great is of the sort that begins there
@@ -276,8 +276,8 @@ wide-sort here (inl h) =
     subst (λ s. WideAs s here) (sym (ap sort_of h.here_is ∙ constant-sort h.text h.after h.base h.suffix h.amount h.constant)) h
 wide-sort here (inr h) =
     elim (quote-sort h.quote (h.body ++ h.quote ∷ h.after) h.is_quote) [
-      inl e ↦ subst (λ s. WideAs s here) (sym (ap sort_of h.here_is ∙ e.1)) (h, e.0)
-    | inr e ↦ subst (λ s. WideAs s here) (sym (ap sort_of h.here_is ∙ e.1)) (h, e.0)
+      | inl e ↦ subst (λ s. WideAs s here) (sym (ap sort_of h.here_is ∙ e.1)) (h, e.0)
+      | inr e ↦ subst (λ s. WideAs s here) (sym (ap sort_of h.here_is ∙ e.1)) (h, e.0)
     ]
 
 -- what the first byte is, by the sort

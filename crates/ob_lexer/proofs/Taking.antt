@@ -1,10 +1,8 @@
 -- What it is for a scan to be right: the piece is the longest that can be taken, or none can.
-use Rattle.std.proofs.Common.{◌≡◌, ℕ, suc, ◌+◌, ◌<◌, ◌≤◌, ◌⊎◌, inl, inr, List, [], ◌∷◌, ◌++◌, length, take, drop, Bool, true, false, Option, None, Some, Result, Ok, Err, refl, arith, ◌∙◌, ap, sym, subst}
-use Rattle.std.proofs.lemmas.List.{length-append}
+use Rattle.std.proofs.Common.{◌≡◌, ℕ, ◌≤◌, inl, List, [], ◌∷◌, ◌++◌, length, take, drop, Option, None, Result, Ok, Err, refl, arith, ◌∙◌, ap, sym, subst}
 use Rattle.ob_tree.specs.Pieces.{IsPiece, IsWhite, IsStuck, IsUnclosed, IsWide, HasFault}
 use Rattle.ob_tree.specs.declared.tokens.TokenKind.{TokenKind}
 use Rattle.ob_tree.specs.declared.faults.LexKind.{LexKind}
-use Rattle.ob_tree.specs.declared.faults.LexKind.TheVariants as fault
 use Rattle.ob_lexer.specs.declared.taken.Taken.{Taken}
 use Rattle.ob_lexer.specs.declared.scanner.Sort.{Sort}
 use Rattle.ob_lexer.specs.Scan.{sort_of, taken}

@@ -1,11 +1,10 @@
 -- Places in a text, as they are counted while it is read.
-use Rattle.std.specs.Prelude.{◌≡◌, ℕ, ◌+◌, ◌==◌, List, [], ◌∷◌, length, count_by, Bool, true, ◌&&◌, Option, Some, None, if◌then◌else◌}
+use Rattle.std.specs.Prelude.{ℕ, ◌+◌, ◌==◌, List, [], ◌∷◌, length, count_by, true, ◌&&◌, Option, Some, None, if◌then◌else◌}
 use Rattle.std.specs.List.{list_all}
 use Rattle.ob_tree.specs.Bytes.{is_blank}
 use Rattle.ob_tree.specs.Spaces.{last_line}
 use Rattle.ob_tree.specs.declared.tokens.Token.{Token}
 use Rattle.ob_tree.specs.declared.tokens.TokenKind.{TokenKind}
-use Rattle.ob_tree.specs.declared.tokens.Span.{Span}
 use Rattle.ob_tree.specs.declared.faults.LexFault.{LexFault}
 use Rattle.ob_tree.specs.declared.faults.LexFault.TheVariants as fault
 use Rattle.ob_lexer.specs.Texts.{fault_of}

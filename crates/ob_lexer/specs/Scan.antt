@@ -1,7 +1,7 @@
 -- The piece or the fault at a place as a function of the bytes from there on, by what the first of them is.
-use Rattle.std.specs.Prelude.{◌≡◌, ℕ, suc, ◌+◌, ◌-◌, ◌^◌, pos, ℤ, List, [], ◌∷◌, ◌++◌, length, take, drop, map, Bool, true, false, not, nat_lt, nat_le, ◌==◌, ◌||◌, ◌&&◌, Option, Some, None, Result, Ok, Err, codes, find, is_some, zero, option_and_then, option_map, if◌then◌else◌, IsOk}
+use Rattle.std.specs.Prelude.{◌≡◌, ℕ, suc, ◌+◌, ◌-◌, pos, ℤ, List, [], ◌∷◌, ◌++◌, length, take, drop, Bool, false, not, nat_lt, nat_le, ◌==◌, ◌||◌, ◌&&◌, Option, Some, None, Result, Ok, Err, codes, find, zero, option_and_then, option_map, if◌then◌else◌}
 use Rattle.std.specs.Option.{option_or}
-use Rattle.std.specs.List.{prefix_len, list_all, list_any}
+use Rattle.std.specs.List.{prefix_len, list_any}
 use Rattle.std.specs.Str.{bytes_eq}
 use Rattle.ob_tree.specs.Bytes.{is_white, is_letter, is_digit, is_octal_digit, is_hex_digit, is_name_byte, is_blank, begins_with, ends_line}
 use Rattle.ob_tree.specs.Spaces.{is_one_line}
@@ -54,13 +54,13 @@ has Class.OnLine c = not (c == 10)
 
 abbrev pub words : List Keyword
 words =
-    word.Break ∷ ( word.Char ∷ ( word.Continue ∷ ( word.Do ∷ ( word.Else ∷ ( word.For ∷ (
-    word.If ∷ ( word.Int ∷ ( word.Long ∷ ( word.Return ∷ ( word.Short ∷ ( word.Signed ∷ (
-    word.Sizeof ∷ ( word.Static ∷ ( word.Struct ∷ ( word.Unsigned ∷ ( word.Void ∷ ( word.While ∷ (
-    word.Null ∷ ( word.Eof ∷ ( word.SizeT ∷ ( word.Auto ∷ ( word.Case ∷ ( word.Default ∷ (
-    word.Double ∷ ( word.Enum ∷ ( word.Extern ∷ ( word.Float ∷ ( word.Goto ∷ ( word.Inline ∷ (
-    word.Switch ∷ ( word.Typedef ∷ ( word.Union ∷ ( word.Volatile ∷ ( word.Bool ∷ ( word.Complex ∷ (
-    word.Imaginary ∷ ( [])))))))))))))))))))))))))))))))))))))
+    word.Break ∷ (word.Char ∷ (word.Continue ∷ (word.Do ∷ (word.Else ∷ (word.For ∷ (
+    word.If ∷ (word.Int ∷ (word.Long ∷ (word.Return ∷ (word.Short ∷ (word.Signed ∷ (
+    word.Sizeof ∷ (word.Static ∷ (word.Struct ∷ (word.Unsigned ∷ (word.Void ∷ (word.While ∷ (
+    word.Null ∷ (word.Eof ∷ (word.SizeT ∷ (word.Auto ∷ (word.Case ∷ (word.Default ∷ (
+    word.Double ∷ (word.Enum ∷ (word.Extern ∷ (word.Float ∷ (word.Goto ∷ (word.Inline ∷ (
+    word.Switch ∷ (word.Typedef ∷ (word.Union ∷ (word.Volatile ∷ (word.Bool ∷ (word.Complex ∷ (
+    word.Imaginary ∷ ([])))))))))))))))))))))))))))))))))))))
 
 abbrev pub is_word : List ℕ → Keyword → Bool
 is_word text keyword = bytes_eq (word_text keyword) text
@@ -86,14 +86,14 @@ scan_name rest = let n = prefix_len is_name_byte rest in taken (name_kind (take 
 
 abbrev pub signs : List Sign
 signs =
-    sign.ShlAssign ∷ ( sign.ShrAssign ∷ ( sign.Arrow ∷ ( sign.PlusPlus ∷ ( sign.MinusMinus ∷ ( sign.Shl ∷ (
-    sign.Shr ∷ ( sign.Le ∷ ( sign.Ge ∷ ( sign.EqEq ∷ ( sign.NotEq ∷ ( sign.AndAnd ∷ (
-    sign.OrOr ∷ ( sign.StarAssign ∷ ( sign.SlashAssign ∷ ( sign.PercentAssign ∷ ( sign.PlusAssign ∷ ( sign.MinusAssign ∷ (
-    sign.AmpAssign ∷ ( sign.CaretAssign ∷ ( sign.BarAssign ∷ ( sign.OpenBracket ∷ ( sign.CloseBracket ∷ ( sign.OpenParen ∷ (
-    sign.CloseParen ∷ ( sign.OpenBrace ∷ ( sign.CloseBrace ∷ ( sign.Dot ∷ ( sign.Amp ∷ ( sign.Star ∷ (
-    sign.Plus ∷ ( sign.Minus ∷ ( sign.Tilde ∷ ( sign.Not ∷ ( sign.Slash ∷ ( sign.Percent ∷ (
-    sign.Lt ∷ ( sign.Gt ∷ ( sign.Caret ∷ ( sign.Bar ∷ ( sign.Question ∷ ( sign.Colon ∷ (
-    sign.Semi ∷ ( sign.Assign ∷ ( sign.Comma ∷ ( [])))))))))))))))))))))))))))))))))))))))))))))
+    sign.ShlAssign ∷ (sign.ShrAssign ∷ (sign.Arrow ∷ (sign.PlusPlus ∷ (sign.MinusMinus ∷ (sign.Shl ∷ (
+    sign.Shr ∷ (sign.Le ∷ (sign.Ge ∷ (sign.EqEq ∷ (sign.NotEq ∷ (sign.AndAnd ∷ (
+    sign.OrOr ∷ (sign.StarAssign ∷ (sign.SlashAssign ∷ (sign.PercentAssign ∷ (sign.PlusAssign ∷ (sign.MinusAssign ∷ (
+    sign.AmpAssign ∷ (sign.CaretAssign ∷ (sign.BarAssign ∷ (sign.OpenBracket ∷ (sign.CloseBracket ∷ (sign.OpenParen ∷ (
+    sign.CloseParen ∷ (sign.OpenBrace ∷ (sign.CloseBrace ∷ (sign.Dot ∷ (sign.Amp ∷ (sign.Star ∷ (
+    sign.Plus ∷ (sign.Minus ∷ (sign.Tilde ∷ (sign.Not ∷ (sign.Slash ∷ (sign.Percent ∷ (
+    sign.Lt ∷ (sign.Gt ∷ (sign.Caret ∷ (sign.Bar ∷ (sign.Question ∷ (sign.Colon ∷ (
+    sign.Semi ∷ (sign.Assign ∷ (sign.Comma ∷ ([])))))))))))))))))))))))))))))))))))))))))))))
 
 abbrev pub begins_sign : List ℕ → Sign → Bool
 begins_sign rest s = bytes_eq (sign_text s) (take (length (sign_text s)) rest)

@@ -3,10 +3,9 @@ ghost use Rattle.ob_tree.specs.Bytes.{begins_with};
 ghost use Rattle.ob_tree.specs.Signs.{begins_comment};
 ghost use Rattle.ob_lexer.specs.Scan.{Scans, block_end_from, comment_length, scan_comment};
 
-use ob_tree::LexKind;
-
 use crate::bytes::{Class, skip};
 use crate::taken::{Refusal, Taken};
+use ob_tree::LexKind;
 
 /// Whether a comment begins here.
 pub fn begins_comment(rest: &[u8]) -> bool

@@ -4,11 +4,10 @@ ghost use Rattle.ob_tree.specs.Bytes.{ends_line};
 ghost use Rattle.ob_tree.specs.Spaces.{is_one_line};
 ghost use Rattle.ob_lexer.specs.Scan.{Scans, strip, skip_blanks, strip_header, one_line_length, filler_length, is_return, line_end_from, include_end, scan_include};
 
-use ob_tree::LexKind;
-
 use crate::bytes::{Class, skip};
 use crate::comments::{begins_comment, comment_length};
 use crate::taken::{Refusal, Taken};
+use ob_tree::LexKind;
 
 /// What stands behind `text` where the bytes begin with it.
 #[tactic(auto, unfolding(crate::specs::Scan::strip))]

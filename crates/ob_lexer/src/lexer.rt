@@ -3,13 +3,11 @@ ghost use Rattle.ob_tree.specs.declared.tokens.Token.{Token};
 ghost use Rattle.ob_tree.specs.declared.faults.LexKind.{LexKind};
 ghost use Rattle.ob_lexer.specs.Texts.{Spells, StopsAt, HasLexFault, fault_of};
 
-use std::alloc::Global;
-
-use ob_tree::{LexFault, Token};
-
 use crate::bytes::{front, skip};
 use crate::place::Place;
 use crate::scanner::scan;
+use ob_tree::{LexFault, Token};
+use std::alloc::Global;
 
 /// Reads a source text of at most 2^20 bytes as tokens (C99 6.4): each is the longest that is possible
 /// at its place. `Ok` has the tokens among the pieces of the text, in order, with their places. The
@@ -47,5 +45,4 @@ pub fn law_one_reading()
     ensures one_spelling { (text : List ℕ) (ts us : List Token) → Spells ts text → Spells us text → ts ≡ us }
     ensures no_fault { (text : List ℕ) (ts : List Token) (kind : LexKind) (at : ℕ) → Spells ts text → StopsAt text kind at → ⊥ }
     ensures one_fault { (text : List ℕ) (k l : LexKind) (i j : ℕ) → StopsAt text k i → StopsAt text l j → (k ≡ l) × (i ≡ j) }
-{
-}
+{}

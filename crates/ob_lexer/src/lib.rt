@@ -14,3 +14,5 @@ mod quotes;
 mod scanner;
 mod signs;
 mod taken;
+#[cfg(test)]
+mod tests;

@@ -2,13 +2,11 @@ ghost use Rattle.std.specs.Prelude.{◌≡◌, IfOk, find};
 ghost use Rattle.ob_tree.specs.Words.{word_text};
 ghost use Rattle.ob_lexer.specs.Scan.{keyword_of, is_word, is_qualifier, name_kind, scan_name, Scans};
 
-use std::alloc::Global;
-
-use ob_base::{NoMemory, Text};
-use ob_tree::{Keyword, TokenKind};
-
 use crate::bytes::Class;
 use crate::taken::{Refusal, Taken};
+use ob_base::{NoMemory, Text};
+use ob_tree::{Keyword, TokenKind};
+use std::alloc::Global;
 
 /// The reserved words.
 const WORDS: [Keyword; 37] = [

@@ -5,37 +5,105 @@ ghost use Rattle.ob_tree.specs.Constants.{digit_value, base_number, number, grea
 ghost use Rattle.ob_lexer.specs.Scan.{Scans, ending_at, begins_ending, is_hex_prefix, base_at, prefix_of, class_of, digits_at, behind_digits, scan_number};
 ghost use Rattle.ob_lexer.specs.Endings.{row_of};
 
+use crate::bytes::{Class, skip};
+use crate::taken::{Refusal, Taken};
 use ob_tree::{Base, LexKind, Suffix, TokenKind};
 use ob_words::IntType;
 
-use crate::bytes::{Class, skip};
-use crate::taken::{Refusal, Taken};
-
 /// The suffixes of integer constants, the longer ones first.
 const ENDINGS: [Ending; 23] = [
-    Ending { text: b"ull", suffix: Suffix::ULL },
-    Ending { text: b"uLL", suffix: Suffix::ULL },
-    Ending { text: b"Ull", suffix: Suffix::ULL },
-    Ending { text: b"ULL", suffix: Suffix::ULL },
-    Ending { text: b"llu", suffix: Suffix::ULL },
-    Ending { text: b"llU", suffix: Suffix::ULL },
-    Ending { text: b"LLu", suffix: Suffix::ULL },
-    Ending { text: b"LLU", suffix: Suffix::ULL },
-    Ending { text: b"ul", suffix: Suffix::UL },
-    Ending { text: b"uL", suffix: Suffix::UL },
-    Ending { text: b"Ul", suffix: Suffix::UL },
-    Ending { text: b"UL", suffix: Suffix::UL },
-    Ending { text: b"lu", suffix: Suffix::UL },
-    Ending { text: b"lU", suffix: Suffix::UL },
-    Ending { text: b"Lu", suffix: Suffix::UL },
-    Ending { text: b"LU", suffix: Suffix::UL },
-    Ending { text: b"ll", suffix: Suffix::LL },
-    Ending { text: b"LL", suffix: Suffix::LL },
-    Ending { text: b"u", suffix: Suffix::U },
-    Ending { text: b"U", suffix: Suffix::U },
-    Ending { text: b"l", suffix: Suffix::L },
-    Ending { text: b"L", suffix: Suffix::L },
-    Ending { text: b"", suffix: Suffix::Plain },
+    Ending {
+        text: b"ull",
+        suffix: Suffix::ULL,
+    },
+    Ending {
+        text: b"uLL",
+        suffix: Suffix::ULL,
+    },
+    Ending {
+        text: b"Ull",
+        suffix: Suffix::ULL,
+    },
+    Ending {
+        text: b"ULL",
+        suffix: Suffix::ULL,
+    },
+    Ending {
+        text: b"llu",
+        suffix: Suffix::ULL,
+    },
+    Ending {
+        text: b"llU",
+        suffix: Suffix::ULL,
+    },
+    Ending {
+        text: b"LLu",
+        suffix: Suffix::ULL,
+    },
+    Ending {
+        text: b"LLU",
+        suffix: Suffix::ULL,
+    },
+    Ending {
+        text: b"ul",
+        suffix: Suffix::UL,
+    },
+    Ending {
+        text: b"uL",
+        suffix: Suffix::UL,
+    },
+    Ending {
+        text: b"Ul",
+        suffix: Suffix::UL,
+    },
+    Ending {
+        text: b"UL",
+        suffix: Suffix::UL,
+    },
+    Ending {
+        text: b"lu",
+        suffix: Suffix::UL,
+    },
+    Ending {
+        text: b"lU",
+        suffix: Suffix::UL,
+    },
+    Ending {
+        text: b"Lu",
+        suffix: Suffix::UL,
+    },
+    Ending {
+        text: b"LU",
+        suffix: Suffix::UL,
+    },
+    Ending {
+        text: b"ll",
+        suffix: Suffix::LL,
+    },
+    Ending {
+        text: b"LL",
+        suffix: Suffix::LL,
+    },
+    Ending {
+        text: b"u",
+        suffix: Suffix::U,
+    },
+    Ending {
+        text: b"U",
+        suffix: Suffix::U,
+    },
+    Ending {
+        text: b"l",
+        suffix: Suffix::L,
+    },
+    Ending {
+        text: b"L",
+        suffix: Suffix::L,
+    },
+    Ending {
+        text: b"",
+        suffix: Suffix::Plain,
+    },
 ];
 
 /// A suffix as it is written.
@@ -56,7 +124,10 @@ fn ending_at(rest: &[u8]) -> Option<Ending>
 fn first_ending(endings: &[Ending], rest: &[u8]) -> Option<Ending>
     ensures { result ≡ find (λ ending. begins_ending rest.now (row_of ending)) endings.now }
 {
-    endings.iter().copied().find(|ending| begins_ending(rest, ending))
+    endings
+        .iter()
+        .copied()
+        .find(|ending| begins_ending(rest, ending))
 }
 
 fn begins_ending(rest: &[u8], ending: &Ending) -> bool
@@ -131,7 +202,11 @@ fn digits_at(rest: &[u8]) -> Digits<'_>
     let base = base_at(rest);
     let tail = &rest[prefix_of(base)..];
     let (digits, behind) = tail.split_at(class_of(base).run(tail));
-    Digits { base, digits, behind }
+    Digits {
+        base,
+        digits,
+        behind,
+    }
 }
 
 /// What a digit counts.

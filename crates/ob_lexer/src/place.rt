@@ -1,12 +1,10 @@
 ghost use Rattle.std.specs.Prelude.{◌≡◌, ◌+◌, ◌<◌, ◌≤◌, ◌^◌, ◌++◌, length, [], OnOk};
 ghost use Rattle.ob_lexer.specs.Places.{step, moved, tokens_at, fault_at, place_of};
 
-use std::alloc::AllocError;
-
-use ob_tree::{LexFault, LexKind, Span, Token, TokenKind};
-
 use crate::bytes::Class;
 use crate::taken::Refusal;
+use ob_tree::{LexFault, LexKind, Span, Token, TokenKind};
+use std::alloc::AllocError;
 
 /// A place in a text: how many bytes stand before it, its line and column from 1, and whether only
 /// spaces and tabs stand before it on its line.
@@ -75,7 +73,12 @@ impl Place {
     }
 
     /// Puts the token that stands from here up to `past`, if any, at the end.
-    pub fn push(self, tokens: &mut Vec<Token>, past: usize, kind: Option<TokenKind>) -> Result<(), AllocError>
+    pub fn push(
+        self,
+        tokens: &mut Vec<Token>,
+        past: usize,
+        kind: Option<TokenKind>,
+    ) -> Result<(), AllocError>
         requires at { self.at < 2 ^ 21 }
         requires past { past < 2 ^ 21 }
         requires line { self.line < 2 ^ 21 }

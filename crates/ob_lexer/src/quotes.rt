@@ -4,15 +4,13 @@ ghost use Rattle.ob_tree.specs.Constants.{number, base_number};
 ghost use Rattle.ob_tree.specs.Characters.{Character, numeric, escape_at, characters, simple_escape, byte_of, value_of, char_value};
 ghost use Rattle.ob_lexer.specs.Scan.{Scans, enclosed_from, spelled_of, first_character, is_wide, bytes_from, only_value, quote_fault, scan_string, scan_character};
 
-use std::alloc::Global;
-
-use ob_base::{NoMemory, Text};
-use ob_tree::{Base, LexKind, TokenKind};
-use ob_words::IntType;
-
 use crate::bytes::{Class, skip};
 use crate::numbers::number;
 use crate::taken::{Refusal, Taken};
+use ob_base::{NoMemory, Text};
+use ob_tree::{Base, LexKind, TokenKind};
+use ob_words::IntType;
+use std::alloc::Global;
 
 /// A character between quotes: a byte that stands for itself, an escape sequence of a value up to 255,
 /// one of a greater value, or a backslash that begins no escape sequence.

@@ -1,8 +1,6 @@
 ghost use Rattle.std.specs.Prelude.{◌≡◌, ◌<◌, length};
 ghost use Rattle.ob_lexer.specs.Scan.{Scans, sort_of, scan};
 
-use std::alloc::Global;
-
 use crate::bytes::{Class, skip};
 use crate::comments::{begins_comment, scan_comment};
 use crate::includes::scan_include;
@@ -11,6 +9,7 @@ use crate::numbers::scan_number;
 use crate::quotes::{scan_character, scan_string};
 use crate::signs::scan_sign;
 use crate::taken::{Refusal, Taken};
+use std::alloc::Global;
 
 /// What can begin at a place.
 #[derive(Clone, Copy)]

@@ -2,10 +2,9 @@ ghost use Rattle.std.specs.Prelude.{◌≡◌, ◌≤◌, length, find};
 ghost use Rattle.ob_tree.specs.Signs.{sign_text};
 ghost use Rattle.ob_lexer.specs.Scan.{sign_at, begins_sign, is_fraction, scan_sign, Scans};
 
-use ob_tree::{LexKind, Sign, TokenKind};
-
 use crate::bytes::Class;
 use crate::taken::{Refusal, Taken};
+use ob_tree::{LexKind, Sign, TokenKind};
 
 /// The punctuators, the longer ones first.
 const SIGNS: [Sign; 45] = [

@@ -1,10 +1,9 @@
 ghost use Rattle.std.specs.Prelude.{◌≡◌};
 ghost use Rattle.ob_lexer.specs.declared.taken.Refusal.TheVariants.{NoMemory};
 
-use std::alloc::AllocError;
-
 use ob_base::NoMemory;
 use ob_tree::{LexKind, TokenKind};
+use std::alloc::AllocError;
 
 /// A piece that was taken: the token that it is, or none for a space, and how many bytes it has.
 #[derive(Debug, Drop)]

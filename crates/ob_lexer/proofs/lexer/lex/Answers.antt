@@ -1,6 +1,6 @@
-use Rattle.std.proofs.Common.{arith, sym, ap, ◌∙◌, subst}
+use Rattle.std.proofs.Common.{arith, sym, subst}
 use Rattle.ob_lexer.specs.Texts.{HasLexFault}
-use Rattle.ob_lexer.proofs.PlaceLemmas.{Reading, reading-start, reading-small, reading-refused, took, reading-next, reading-end}
+use Rattle.ob_lexer.proofs.PlaceLemmas.{reading-start, reading-small, reading-refused, took, reading-next, reading-end}
 use Rattle.ob_lexer.proofs.Scanning.{right-spelled, right-faulty, spells-same, spells-no-fault}
 use Rattle.ob_lexer.proofs.lexer.lex.Goals as goal
 
@@ -10,7 +10,7 @@ loop-place-init c = reading-start c.args.bytes.now c.new-tokens.result.items c.s
 pub returns-in-Err : goal.returns-in-Err
 returns-in-Err c =
     let right : HasLexFault c.args.bytes.now c.fault.result = subst (HasLexFault c.args.bytes.now) (sym c.fault.ensures)
-        (reading-refused c.args.bytes.now c.loop-place.tokens.items c.loop-place.place c.skip-rest.result.now c.in-Err.refusal c.loop-place.invariant c.loop-place-test.true c.skip-rest.ensures c.in-Err.ensures) in
+    (reading-refused c.args.bytes.now c.loop-place.tokens.items c.loop-place.place c.skip-rest.result.now c.in-Err.refusal c.loop-place.invariant c.loop-place-test.true c.skip-rest.ensures c.in-Err.ensures) in
     record {
       right = right;
       spelled = λ ts g. right-spelled c.args.bytes.now ts c.fault.result g right;

@@ -1,5 +1,4 @@
-use Rattle.std.proofs.Common.{rules, arith, sym, ◌≡◌, ◌<◌, ◌^◌}
-use Rattle.ob_tree.specs.Constants.{base_number, number}
+use Rattle.std.proofs.Common.{arith}
 use Rattle.ob_lexer.proofs.NumberLemmas.{number-over, number-end}
 use Rattle.ob_lexer.proofs.numbers.number.Goals as goal
 

@@ -1,4 +1,4 @@
-use Rattle.std.proofs.Common.{ℕ, List, ◌≡◌, rules, arith, ◌∙◌, ap, sym, ◌∷◌, drop}
+use Rattle.std.proofs.Common.{ℕ, List, ◌≡◌, ◌∙◌, ap, ◌∷◌, drop}
 use Rattle.ob_tree.specs.Characters.{characters, escape_at}
 use Rattle.ob_lexer.specs.Scan.{first_character}
 use Rattle.ob_lexer.proofs.QuoteLemmas.{characters-escaped}
