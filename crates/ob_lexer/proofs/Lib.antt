@@ -10,6 +10,8 @@ pub mod SignPieces
 pub mod NamePieces
 pub mod CommentPieces
 pub mod IncludePieces
+pub mod SuffixTable
+pub mod ConstantBounds
 pub mod NumberPieces
 pub mod QuotePieces
 pub mod Scanning
