@@ -1,3 +1,3 @@
-pub mod Constants
+pub mod Decimals
 pub mod Sums
 pub mod Prints

@@ -3,7 +3,7 @@ use Rattle.std.proofs.Common.{◌≡◌, ◌≢◌, ℕ, List, [], ◌∷◌, �
 use Rattle.std.specs.List.{AllByRecursion, flat_map}
 use Rattle.std.proofs.lemmas.List.{append-nil, append_assoc, append_cancel_left}
 use Rattle.ob_tree.specs.First.{IsSum, sum_text, print_text, return_text, body_text, IsFirstText}
-use Rattle.ob_tree.specs.Pieces.{StartsWithSum, StartsWithPrint, StartsWithPrints}
+use Rattle.ob_tree.specs.Starts.{StartsWithSum, StartsWithPrint, StartsWithPrints}
 use Rattle.ob_tree.specs.declared.first.First.{First}
 use Rattle.ob_tree.proofs.Sums.{same_sum}
 

@@ -4,8 +4,8 @@ use Rattle.std.specs.List.{AllByRecursion, flat_map}
 use Rattle.std.specs.Fmt.{decimal}
 use Rattle.std.proofs.lemmas.List.{append-nil, append_assoc, flat_map_more, length_push, length-append}
 use Rattle.ob_tree.specs.First.{greatest_constant, most_constants, IsSum, addend_text, sum_text}
-use Rattle.ob_tree.specs.Pieces.{EndsConstant, EndsSum, StartsWithConstant, StartsWithSum}
-use Rattle.ob_tree.proofs.Constants.{same_constant}
+use Rattle.ob_tree.specs.Starts.{EndsConstant, EndsSum, StartsWithConstant, StartsWithSum}
+use Rattle.ob_tree.proofs.Decimals.{same_constant}
 
 abbrev AllSmall : List ℕ → Type 0
 AllSmall constants = AllByRecursion (λ n. n ≤ greatest_constant) constants

@@ -1,6 +1,6 @@
 ghost use Rattle.std.specs.Prelude.{◌≡◌, ℕ, ◌+◌, ◌*◌, ◌<◌, ◌≤◌, ◌⊎◌, List, IfSome, IfNone, MatchOption};
 ghost use Rattle.ob_tree.specs.First.{greatest_constant};
-ghost use Rattle.ob_tree.specs.Pieces.{StartsWithConstant};
+ghost use Rattle.ob_tree.specs.Starts.{StartsWithConstant};
 
 use crate::text::strip_digit;
 

@@ -1,6 +1,6 @@
 ghost use Rattle.std.specs.Prelude.{◌≡◌, ℕ, List, IfOk, MatchOption};
 ghost use Rattle.ob_tree.specs.First.{IsSum, return_text};
-ghost use Rattle.ob_tree.specs.Pieces.{StartsWithPrint, StartsWithPrints};
+ghost use Rattle.ob_tree.specs.Starts.{StartsWithPrint, StartsWithPrints};
 
 use crate::sum::read_sum;
 use crate::text::strip;

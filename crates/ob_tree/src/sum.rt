@@ -1,5 +1,5 @@
 ghost use Rattle.std.specs.Prelude.{◌≡◌, ℕ, List, IfOk, MatchOption};
-ghost use Rattle.ob_tree.specs.Pieces.{StartsWithSum};
+ghost use Rattle.ob_tree.specs.Starts.{StartsWithSum};
 
 use crate::constant::read_constant;
 use crate::text::strip;

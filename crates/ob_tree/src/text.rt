@@ -1,5 +1,5 @@
 ghost use Rattle.std.specs.Prelude.{◌≡◌, ◌≢◌, ℕ, ◌+◌, ◌<◌, List, ◌∷◌, ◌++◌, MatchOption};
-ghost use Rattle.ob_tree.specs.Pieces.{EndsConstant};
+ghost use Rattle.ob_tree.specs.Starts.{EndsConstant};
 
 /// What follows the word that the text begins with, if it does.
 pub(crate) fn strip<'a>(text: &'a [u8], word: &[u8]) -> Option<&'a [u8]>

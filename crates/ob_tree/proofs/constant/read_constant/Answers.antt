@@ -1,6 +1,6 @@
 use Rattle.std.proofs.Common.{◌++◌, ap, sym, ◌∙◌, arith}
 use Rattle.std.specs.Fmt.{decimal}
-use Rattle.ob_tree.proofs.Constants.{if_none, no_constant, no_longer_constant, decimal_first, decimal_next}
+use Rattle.ob_tree.proofs.Decimals.{if_none, no_constant, no_longer_constant, decimal_first, decimal_next}
 use Rattle.ob_tree.proofs.constant.read_constant.Goals as goal
 
 pub returns-in_err-constant-clause-none : goal.returns-in_err-constant-clause-none

@@ -1,5 +1,5 @@
 use Rattle.std.proofs.Common.{length}
-use Rattle.ob_tree.specs.Pieces.{StartsWithPrints}
+use Rattle.ob_tree.specs.Starts.{StartsWithPrints}
 use Rattle.ob_tree.proofs.statement.read_prints.Given as goal
 
 abbrev pub invariant-loop-prints : goal.invariant-loop-prints

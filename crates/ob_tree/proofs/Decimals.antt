@@ -8,7 +8,7 @@ use Rattle.std.proofs.lemmas.Fmt.{decimal_digit, decimal_step, decimal_injective
 use Rattle.std.proofs.lemmas.List.{append-nil, append_assoc, take_at}
 use Rattle.std.proofs.lemmas.Str.Parse.{IsNumeralModel, numerals_by_value, digits_value-take-le}
 use Rattle.ob_tree.specs.First.{greatest_constant}
-use Rattle.ob_tree.specs.Pieces.{EndsConstant, StartsWithConstant}
+use Rattle.ob_tree.specs.Starts.{EndsConstant, StartsWithConstant}
 
 abbrev AllDigits : List ℕ → Type 0
 AllDigits ds = AllByRecursion IsAsciiDigit ds
