@@ -12,7 +12,7 @@ base_number Base.Decimal = 10
 base_number Base.Octal = 8
 base_number Base.Hexadecimal = 16
 
--- what a digit counts, up to `f` or `F` for 15
+-- what a digit counts: `a` and `A` are 10, `f` and `F` are 15
 abbrev pub digit_value : ℕ → ℕ
 digit_value c = if nat_le c 57 then c - 48 else (if nat_le c 70 then c - 55 else c - 87)
 
@@ -35,8 +35,8 @@ IsDigits Base.Octal text digits =
 IsDigits Base.Hexadecimal text digits =
     ((text ≡ codes "0x" ++ digits) ⊎ (text ≡ codes "0X" ++ digits)) × IsTrue (begins_with is_hex_digit digits) × IsTrue (list_all is_hex_digit digits)
 
--- The integer suffixes: `u` or `U`, and `l`, `L`, `ll` or `LL`, each at most once and in either order.
--- No suffix in the table begins another that stands before it.
+-- The integer suffixes: none, or `u` or `U`, or one of `l`, `L`, `ll` and `LL`, or one of each in either
+-- order. The longer ones stand first.
 abbrev pub suffixes : List (List ℕ × Suffix)
 suffixes =
     (codes "ull", Suffix.ULL) ∷ ((codes "uLL", Suffix.ULL) ∷ ((codes "Ull", Suffix.ULL) ∷ ((codes "ULL", Suffix.ULL)
@@ -57,7 +57,7 @@ pub record IsConstant (text : List ℕ) (base : Base) (suffix : Suffix) (value :
   pub ending_is : Contains suffixes (ending, suffix)
   pub value_is : value ≡ number (base_number base) digits
 
--- the greatest number of a type of at least 32 bits
+-- the greatest number of a type that a constant can have
 abbrev pub greatest : IntType → ℕ
 greatest IntType.Int = 2 ^ 31 - 1
 greatest IntType.UInt = 2 ^ 32 - 1

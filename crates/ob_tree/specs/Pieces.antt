@@ -36,7 +36,7 @@ abbrev pub IsPiece : (before text after : List ℕ) → Option TokenKind → Typ
 IsPiece before text after None = IsSpace before text after
 IsPiece before text after (Some token) = IsToken text after token
 
--- The piece is the longest that can be taken at its place.
+-- The piece is the longest that can be taken at its place (C99 6.4, paragraph 4).
 pub record IsLongest (before text after : List ℕ) (piece : Option TokenKind) : Type 0 where
   pub possible : IsPiece before text after piece
   pub longest : (t a : List ℕ) (p : Option TokenKind) → t ++ a ≡ text ++ after → IsPiece before t a p → length t ≤ length text
