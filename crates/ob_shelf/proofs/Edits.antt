@@ -3,7 +3,8 @@ use Rattle.std.proofs.Common.{◌≡◌, ℕ, zero, suc, ◌+◌, ◌-◌, ◌*�
 use Rattle.std.specs.Prelude.{◌==◌, insert, remove}
 use Rattle.std.specs.List.{All, AllPairs}
 use Rattle.std.proofs.lemmas.Bool.{cases_eq, cases_lt, lt-ltb, le-ltb, eq-eqb, ne_eqb, cond-true, cond-false}
-use Rattle.std.proofs.lemmas.List.Edits.{length-insert, get_or-insert_below, get_or-insert_at, get_or-insert_above}
+use Rattle.std.proofs.lemmas.List.Edits.{length-insert, get_or-insert_below, get_or-insert_at, get_or-insert_above, length-remove, get_or-remove_below, get_or-remove_above}
+use Rattle.std.proofs.lemmas.List.Quantifiers.{all_pairs_remove}
 use Rattle.ob_model.specs.Heap.{Block, with_block, without_place, before_or_after}
 use Rattle.ob_shelf.specs.declared.blocks.LiveBlock.{LiveBlock}
 use Rattle.ob_shelf.specs.Blocks.{as_block, as_blocks, no_block, IsInOrder, IsGranular, Precedes, AreLaid}
@@ -112,3 +113,33 @@ module _ (heap : ℕ) (blocks : List LiveBlock) (at : ℕ) (b : LiveBlock) (laid
     within = λ k d below. inserted (λ (x : LiveBlock). x.place + x.length ≤ heap) blocks at b d k within below
         (λ k_before. laid.within k d (omega arith)) (λ k_at. end) (λ k_after. laid.within (k - 1) d (omega (arith, long)));
   }
+
+-- an element of a list with one less is an old one, on its side
+pub removed : {X : Type 0} (P : X → Type 0) (xs : List X) (at : ℕ) (d : X) (k : ℕ) → at < length xs → (k < at → P (get_or xs k d)) → (at ≤ k → P (get_or xs (k + 1) d)) → P (get_or (remove xs at) k d)
+removed P xs at d k within before after =
+    ⊎_elim
+    (λ less. subst P (sym (get_or-remove_below xs at d k less within)) (before less))
+    (λ more. subst P (sym (get_or-remove_above xs at d k more within)) (after more))
+    (cases_lt k at)
+
+pub AreLaid-remove : (heap : ℕ) (blocks : List LiveBlock) (at : ℕ) → AreLaid heap blocks → at < length blocks → AreLaid heap (remove blocks at)
+AreLaid-remove heap blocks at laid within =
+    let short : length (remove blocks at) + 1 ≡ length blocks = length-remove blocks at within in
+    record {
+      small = laid.small;
+      in_order = all_pairs_remove Precedes blocks at within laid.in_order;
+      granular = λ k d below. removed IsGranular blocks at d k within
+          (λ k_before. laid.granular k d (omega arith)) (λ k_after. laid.granular (k + 1) d (omega (arith, short)));
+      within = λ k d below. removed (λ (x : LiveBlock). x.place + x.length ≤ heap) blocks at d k within
+          (λ k_before. laid.within k d (omega arith)) (λ k_after. laid.within (k + 1) d (omega (arith, short)));
+    }
+
+pub AreLaid-none : (heap : ℕ) (blocks : List LiveBlock) → heap ≤ 67108864 → blocks ≡ [] → AreLaid heap blocks
+AreLaid-none heap blocks small none =
+    let empty : length blocks ≡ 0 = ap length none in
+    record {
+      small = small;
+      in_order = λ i j d less below. absurd (omega (arith, empty));
+      granular = λ k d below. absurd (omega (arith, empty));
+      within = λ k d below. absurd (omega (arith, empty));
+    }

@@ -1,5 +1,5 @@
 -- What a shelf keeps of its blocks, and the gaps between them.
-use Rattle.std.specs.Prelude.{◌≡◌, ◌≢◌, ℕ, ◌+◌, ◌-◌, ◌/◌, ◌%◌, ◌<◌, ◌≤◌, ◌==◌, nat_lt, List, length, map, slice_index_or, Option, Some, None, if◌then◌else◌}
+use Rattle.std.specs.Prelude.{◌≡◌, ◌≢◌, ◌⊎◌, ℕ, ◌+◌, ◌-◌, ◌*◌, ◌/◌, ◌%◌, ◌<◌, ◌≤◌, ◌==◌, nat_lt, List, length, map, slice_index, slice_index_or, Option, Some, None, if◌then◌else◌}
 use Rattle.std.specs.List.{All, AllPairs}
 use Rattle.std.specs.Global.{Vec}
 use Rattle.std.specs.Vec.{vec_capacity}
@@ -29,11 +29,6 @@ pub record AreLaid (heap : ℕ) (blocks : List LiveBlock) : Type 0 where
   pub in_order : IsInOrder blocks
   pub granular : All IsGranular blocks
   pub within : All (λ b. b.place + b.length ≤ heap) blocks
-
--- what a shelf keeps
-pub record IsKept (heap : ℕ) (blocks : Vec LiveBlock) : Type 0 where
-  pub laid : AreLaid heap blocks.items
-  pub fit : heap / 16 < vec_capacity blocks
 
 abbrev pub no_block : LiveBlock
 no_block = record { place = 0; length = 0 }
@@ -65,3 +60,27 @@ pub record Splits (blocks : List LiveBlock) (place at : ℕ) : Type 0 where
   pub within : at ≤ length blocks
   pub before : (k : ℕ) (d : LiveBlock) → k < at → (slice_index_or blocks k d).place ≤ place
   pub after : (k : ℕ) (d : LiveBlock) → at ≤ k → k < length blocks → place < (slice_index_or blocks k d).place
+
+-- hint c is a number of gaps, from the first on, that are shorter than c granules
+abbrev pub AreHints : ℕ → List LiveBlock → List ℕ → Type 0
+AreHints heap blocks hints = (c k : ℕ) → c < length hints → k < slice_index hints c → IsShorter heap blocks (16 * c) k
+
+-- the gaps before `index` are known to be shorter than `size`, too
+pub record Raises (old new : List ℕ) (size index : ℕ) : Type 0 where
+  pub classes : length new ≡ length old
+  pub each : (c k : ℕ) → c < length old → k < slice_index new c → (k < slice_index old c) ⊎ ((16 * c ≡ size) × (k < index))
+
+-- a gap of `merged` bytes stands at `index`, in place of two: what a hint may still say of gap k
+abbrev pub IsLowered : ℕ → ℕ → ℕ → ℕ → ℕ → Type 0
+IsLowered hint c merged index k = ((k < index) × (k < hint)) ⊎ ((index ≤ k) × (merged < 16 * c) × (k + 1 < hint))
+
+pub record Lowers (old new : List ℕ) (merged index : ℕ) : Type 0 where
+  pub classes : length new ≡ length old
+  pub each : (c k : ℕ) → c < length old → k < slice_index new c → IsLowered (slice_index old c) c merged index k
+
+-- what a shelf keeps
+pub record IsKept (heap : ℕ) (blocks : Vec LiveBlock) (hints : List ℕ) : Type 0 where
+  pub laid : AreLaid heap blocks.items
+  pub fit : heap / 16 < vec_capacity blocks
+  pub hints_hold : AreHints heap blocks.items hints
+  pub classes : length hints ≡ 65

@@ -1,4 +1,4 @@
-ghost use Rattle.std.specs.Prelude.{◌≡◌, ℕ, ◌+◌, ◌<◌, ◌≤◌, length, Some, None, MatchOption};
+ghost use Rattle.std.specs.Prelude.{◌≡◌, ℕ, ◌+◌, ◌-◌, ◌<◌, ◌≤◌, length, Some, None, MatchOption};
 ghost use Rattle.ob_model.specs.Heap.{heap_place};
 ghost use Rattle.std.specs.List.{All};
 ghost use Rattle.ob_shelf.specs.Blocks.{AreLaid, IsGranular, IsInOrder, IsIndexOf, IsFirstGap, IsShorter, Splits, as_blocks, gap_start, gap_end};
@@ -46,15 +46,25 @@ fn first_gap(blocks: &[LiveBlock], heap: u64, from: usize, size: u64) -> Option<
 }
 
 /// The gap that a block of `size` bytes goes into: its start is the heap's place for the block.
-pub(crate) fn gap_for(blocks: &[LiveBlock], heap: u64, size: u64) -> Option<usize>
+/// The gaps before index `from` are shorter.
+pub(crate) fn gap_for(blocks: &[LiveBlock], heap: u64, from: usize, size: u64) -> Option<usize>
     requires laid { AreLaid heap blocks.now }
     requires size { size ≤ 67108864 }
-    requires some { 0 < size }
+    requires shorter { (k : ℕ) → k < from → IsShorter heap blocks.now size k }
     ensures gap { IsFirstGap heap blocks.now size result }
     ensures place { MatchOption result (heap_place (as_blocks blocks.now) heap size ≡ None) (λ i. heap_place (as_blocks blocks.now) heap size ≡ Some (gap_start blocks.now i)) }
 {
     law_first_fit();
-    first_gap(blocks, heap, 0, size)
+    first_gap(blocks, heap, from, size)
+}
+
+/// How long the gap is that comes to be when block `index` is freed.
+pub(crate) fn merged_gap(blocks: &[LiveBlock], heap: u64, index: usize) -> u64
+    requires index { index < length blocks.now }
+    requires short { All (λ b. b.place + b.length ≤ 67108864) blocks.now }
+    ensures { result ≡ gap_end heap blocks.now (index + 1) - gap_start blocks.now index }
+{
+    gap_end(blocks, heap, index + 1).saturating_sub(gap_start(blocks, index))
 }
 
 /// How many blocks have a place of at most `place`, by a binary search.

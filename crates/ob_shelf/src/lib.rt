@@ -8,6 +8,7 @@ pub use shelf::Shelf;
 
 mod blocks;
 mod gaps;
+mod hints;
 mod shelf;
 #[cfg(test)]
 mod tests;

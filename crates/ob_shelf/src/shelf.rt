@@ -3,18 +3,22 @@ ghost use Rattle.ob_words.specs.Words.{block};
 ghost use Rattle.ob_model.specs.Heap.{heap_place, with_block, without_place};
 
 use crate::blocks::LiveBlock;
-use crate::gaps::{gap_for, gap_start, index_of};
+use crate::gaps::{gap_for, gap_start, index_of, merged_gap};
+use crate::hints::{CLASSES, hint_for, lower, raise};
 use ob_base::NoMemory;
 use ob_model::law_first_fit;
 use ob_words::block;
 use std::alloc::Global;
 use std::marker::Model;
 
-/// The live blocks of a heap, in order of their places.
+/// The live blocks of a heap, in order of their places. A gap is what lies between two of them, so freed
+/// neighbours count as one. For each small size a hint says how many gaps from the first on are too short,
+/// so that a search goes over each of them once for as long as no block there is freed.
 #[derive(Drop)]
 pub struct Shelf {
     heap: u64,
     blocks: Vec<LiveBlock>,
+    hints: [usize; CLASSES],
 }
 
 impl Model for Shelf {
@@ -25,7 +29,7 @@ impl Model for Shelf {
 
     ghost view = { λ s. record { heap = s.heap; blocks = as_blocks s.blocks.items } };
 
-    ghost invariant = { λ s. IsKept s.heap s.blocks };
+    ghost invariant = { λ s. IsKept s.heap s.blocks s.hints };
 }
 
 impl Shelf {
@@ -39,6 +43,7 @@ impl Shelf {
         Ok(Shelf {
             heap,
             blocks: Vec::with_capacity(alloc, room)?,
+            hints: [0; CLASSES],
         })
     }
 
@@ -51,13 +56,15 @@ impl Shelf {
         ensures taken { IfSome result (λ place. self.new ≡ record self.old { blocks = with_block (record { place = place; length = size }) self.old.blocks }) }
         ensures none { IfNone result (self.new ≡ self.old) }
     {
-        let index = gap_for(self.blocks.as_slice(), self.heap, size)?;
+        let from = hint_for(&self.hints, size);
+        let index = gap_for(self.blocks.as_slice(), self.heap, from, size)?;
         let place = gap_start(self.blocks.as_slice(), index);
         let taken = LiveBlock {
             place: place as u32,
             length: size as u32,
         };
         let _ = self.blocks.insert(index, taken);
+        raise(&mut self.hints, size, index);
         Some(place)
     }
 
@@ -82,7 +89,9 @@ impl Shelf {
         ensures { self.new ≡ record self.old { blocks = without_place place self.old.blocks } }
     {
         if let Some(index) = index_of(self.blocks.as_slice(), place) {
+            let merged = merged_gap(self.blocks.as_slice(), self.heap, index);
             let _ = self.blocks.remove(index);
+            lower(&mut self.hints, merged, index);
         }
     }
 
@@ -91,5 +100,6 @@ impl Shelf {
         ensures { self.new ≡ record self.old { blocks = [] } }
     {
         self.blocks.clear();
+        self.hints = [0; CLASSES];
     }
 }

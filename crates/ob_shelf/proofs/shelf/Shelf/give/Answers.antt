@@ -1,11 +1,12 @@
-use Rattle.std.proofs.Common.{◌≡◌, List, ap, sym, ◌∙◌}
+use Rattle.std.proofs.Common.{◌≡◌, ◌+◌, ◌-◌, ◌<◌, arith, length, List, ap, sym, ◌∙◌}
 use Rattle.std.specs.Prelude.{remove}
 use Rattle.std.specs.List.{All}
 use Rattle.ob_model.specs.Heap.{Block, without_place}
 use Rattle.ob_shelf.specs.declared.blocks.LiveBlock.{LiveBlock}
 use Rattle.ob_shelf.specs.Places.{Places}
-use Rattle.ob_shelf.specs.Blocks.{as_blocks, IsInOrder, IsGranular}
-use Rattle.ob_shelf.proofs.Edits.{without_place-none, without_place-remove, one_place}
+use Rattle.ob_shelf.specs.Blocks.{as_blocks, IsInOrder, IsGranular, Lowers, gap_start, gap_end}
+use Rattle.ob_shelf.proofs.Edits.{without_place-none, without_place-remove, one_place, AreLaid-remove}
+use Rattle.ob_shelf.proofs.HintsHold.{hints_given}
 use Rattle.ob_shelf.proofs.shelf.Shelf.give.Goals as goal
 
 pub returns-in-Some : goal.returns-in-Some
@@ -23,3 +24,15 @@ pub returns-in_default : goal.returns-in_default
 returns-in_default c =
     let shelf : List Block → Places = λ bs. record { heap = c.self.inside.heap; blocks = bs } in
     rw (← c.self.view_is, ← c.as_slice.ensures.value) (ap shelf (sym (without_place-none c.args.place c.as_slice.result.now c.in_default.ensures)))
+
+pub invariant_of-self : goal.invariant_of-self
+invariant_of-self c =
+    let within : c.in-Some.index < length c.self.inside.blocks.items = rw (← c.as_slice.ensures.value) c.in-Some.ensures.0 in
+    let merged : c.merged_gap-merged.result ≡ gap_end c.self.inside.heap c.self.inside.blocks.items (c.in-Some.index + 1) - gap_start c.self.inside.blocks.items c.in-Some.index = rw (← c.as_slice-in-Some.ensures.value) c.merged_gap-merged.ensures in
+    let lowers : Lowers c.self.inside.hints c.lower.new.hints (gap_end c.self.inside.heap c.self.inside.blocks.items (c.in-Some.index + 1) - gap_start c.self.inside.blocks.items c.in-Some.index) c.in-Some.index = rw (← merged) c.lower.ensures in
+    record {
+      laid = rw c.remove.ensures.items (AreLaid-remove c.self.inside.heap c.self.inside.blocks.items c.in-Some.index c.self.invariant.laid within);
+      fit = omega (arith, c.remove.ensures.capacity, c.self.invariant.fit);
+      hints_hold = rw c.remove.ensures.items (hints_given c.self.inside.heap c.self.inside.blocks.items c.in-Some.index c.self.inside.hints c.lower.new.hints within c.self.invariant.hints_hold lowers);
+      classes = c.lower.ensures.classes ∙ c.self.invariant.classes;
+    }

@@ -7,6 +7,7 @@ use Rattle.ob_shelf.specs.Places.{Places}
 use Rattle.ob_shelf.specs.Blocks.{as_blocks, IsFirstGap, gap_start}
 use Rattle.ob_shelf.proofs.Edits.{few_blocks}
 use Rattle.ob_shelf.proofs.Taken.{AreLaid-taken, with_block-taken}
+use Rattle.ob_shelf.proofs.HintsHold.{hints_taken}
 use Rattle.ob_shelf.proofs.shelf.Shelf.take_block.Goals as goal
 
 pub invariant_of-self : goal.invariant_of-self
@@ -18,6 +19,8 @@ invariant_of-self c =
     record {
       laid = rw entered (AreLaid-taken c.self.inside.heap c.self.inside.blocks.items c.args.size c.in_ok-index.index c.gap_start-place.result c.self.invariant.laid gap place c.requires.least c.requires.whole);
       fit = omega (arith, c.insert.ensures.capacity, c.self.invariant.fit);
+      hints_hold = rw entered (hints_taken c.self.inside.heap c.self.inside.blocks.items c.args.size c.in_ok-index.index c.gap_start-place.result c.self.inside.hints c.raise.new.hints gap place c.self.invariant.hints_hold c.raise.ensures);
+      classes = c.raise.ensures.classes ∙ c.self.invariant.classes;
     }
 
 pub returns-clause-taken : goal.returns-clause-taken
