@@ -5,10 +5,9 @@
 use ob_base::{StdFolder, StdSink, StdSource};
 use ob_program::top;
 use std::alloc::Global;
-use std::env;
 use std::env::Env;
-use std::io;
 use std::process::ExitCode;
+use std::{env, io};
 
 /// The exit status for want of memory.
 const NO_MEMORY: u8 = 144;
@@ -23,7 +22,14 @@ fn main(rt: HostRuntime) -> ExitCode {
     let stderr = rt.stderr();
     let mut out = StdSink::new(io::writer(&stdout));
     let mut err = StdSink::new(io::writer(&stderr));
-    let status = top(rt.alloc(), words, &mut folder, &mut input, &mut out, &mut err);
+    let status = top(
+        rt.alloc(),
+        words,
+        &mut folder,
+        &mut input,
+        &mut out,
+        &mut err,
+    );
     ExitCode::from(status.code())
 }
 
