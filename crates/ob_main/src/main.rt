@@ -4,7 +4,6 @@
 
 use ob_base::{StdFolder, StdSink, StdSource};
 use ob_program::top;
-use std::alloc::Global;
 use std::env::Env;
 use std::process::ExitCode;
 use std::{env, io};
