@@ -5,3 +5,15 @@ pub mod Constants
 pub mod Characters
 pub mod Spaces
 pub mod Pieces
+pub mod Trees
+pub mod Programs
+pub mod Spelling
+pub mod ProgramSpelling
+pub mod Levels
+pub mod Grammar
+pub mod ProgramGrammar
+pub mod Places
+pub mod ProgramPlaces
+pub mod Paths
+pub mod ProgramPaths
+pub mod Fronts
