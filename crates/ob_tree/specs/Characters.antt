@@ -1,5 +1,5 @@
 -- Character constants and string literals (C99 6.4.4.4 and 6.4.5).
-use Rattle.std.specs.Prelude.{◌≡◌, ℕ, zero, suc, ℤ, pos, negsuc, ◌+◌, ◌-◌, ◌<◌, ◌⊎◌, List, [], ◌∷◌, ◌++◌, length, take, map, Bool, false, not, nat_lt, nat_le, ◌==◌, ◌||◌, ◌&&◌, Option, Some, None, IsTrue, Contains, take_while, if◌then◌else◌}
+use Rattle.std.specs.Prelude.{◌≡◌, ℕ, zero, suc, ℤ, pos, negsuc, ◌+◌, ◌-◌, ◌<◌, ◌≤◌, ◌⊎◌, List, [], ◌∷◌, ◌++◌, length, take, map, Bool, false, true, not, nat_lt, nat_le, ◌==◌, ◌||◌, ◌&&◌, Option, Some, None, IsTrue, Contains, take_while, if◌then◌else◌}
 use Rattle.ob_tree.specs.Bytes.{is_octal_digit, is_hex_digit}
 use Rattle.ob_tree.specs.Constants.{number}
 use Rattle.ob_words.specs.declared.types.IntType.{IntType}

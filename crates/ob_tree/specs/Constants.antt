@@ -1,5 +1,5 @@
 -- Integer constants (C99 6.4.4.1).
-use Rattle.std.specs.Prelude.{◌≡◌, ℕ, ℤ, pos, ◌+◌, ◌-◌, ◌*◌, ◌^◌, ◌≤◌, ◌⊎◌, List, [], ◌∷◌, ◌++◌, length, nat_le, ◌==◌, ◌||◌, Option, Some, None, IsTrue, codes, Contains, find, if◌then◌else◌}
+use Rattle.std.specs.Prelude.{◌≡◌, ℕ, ℤ, pos, ◌+◌, ◌-◌, ◌*◌, ◌^◌, ◌≤◌, ◌⊎◌, List, [], ◌∷◌, ◌++◌, length, Bool, nat_le, ◌==◌, ◌||◌, Option, Some, None, IsTrue, codes, Contains, find, if◌then◌else◌}
 use Rattle.std.specs.List.{list_all}
 use Rattle.ob_tree.specs.Bytes.{is_digit, is_nonzero_digit, is_octal_digit, is_hex_digit, is_name_byte, begins_with}
 use Rattle.ob_tree.specs.declared.constants.Base.{Base}

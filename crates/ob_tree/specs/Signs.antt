@@ -1,5 +1,5 @@
 -- Punctuators (C99 6.4.6).
-use Rattle.std.specs.Prelude.{◌≡◌, ℕ, List, [], ◌∷◌, ◌++◌, Bool, false, ◌==◌, ◌||◌, ◌&&◌, IsTrue, codes}
+use Rattle.std.specs.Prelude.{◌≡◌, ℕ, List, [], ◌∷◌, ◌++◌, Bool, false, true, ◌==◌, ◌||◌, ◌&&◌, IsTrue, codes}
 use Rattle.ob_tree.specs.Bytes.{is_digit, begins_with}
 use Rattle.ob_tree.specs.declared.tokens.Sign.{Sign}
 use Rattle.ob_tree.specs.declared.tokens.Sign.TheVariants as sign

@@ -1,7 +1,7 @@
 -- What stands between tokens: white space and comments (C99 6.4, 6.4.9), and include lines (C99 6.10.2).
-use Rattle.std.specs.Prelude.{◌≡◌, ℕ, ◌⊎◌, List, [], ◌∷◌, ◌++◌, Bool, not, ◌==◌, IsTrue, codes, flat_map, if◌then◌else◌}
+use Rattle.std.specs.Prelude.{◌≡◌, ℕ, ◌⊎◌, List, [], ◌∷◌, ◌++◌, Bool, false, true, not, ◌==◌, IsTrue, codes, flat_map, if◌then◌else◌}
 use Rattle.std.specs.List.{list_all}
-use Rattle.ob_tree.specs.Bytes.{is_blank, ends_line}
+use Rattle.ob_tree.specs.Bytes.{is_white, is_blank, ends_line}
 
 -- the bytes have no line feed
 abbrev pub is_one_line : List ℕ → Bool
