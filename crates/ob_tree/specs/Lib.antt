@@ -17,3 +17,4 @@ pub mod ProgramPlaces
 pub mod Paths
 pub mod ProgramPaths
 pub mod Fronts
+pub mod ExpressionView

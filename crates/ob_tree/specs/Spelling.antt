@@ -36,6 +36,11 @@ abbrev pub spell_comma : Bool → List TokenKind
 spell_comma false = []
 spell_comma true = kind.Sign sign.Comma ∷ []
 
+-- the comma before the item of this number, counted from 0: before each but the first
+abbrev pub comma_before : ℕ → List TokenKind
+comma_before zero = []
+comma_before (suc n) = kind.Sign sign.Comma ∷ []
+
 abbrev mutual
   pub spell : ExprTree → List TokenKind
   spell (ExprTree.Name m name) = kind.Name name ∷ []

@@ -2,9 +2,12 @@
 #![tactic(auto)]
 
 pub use constants::{Base, Suffix};
+pub use expressions::{Dim, Expr, ExprNode, Init, MemberDecl, ObjDecl, Spec, SpecNode, TypeName};
 pub use faults::{LexFault, LexKind};
 pub use tokens::{Keyword, Sign, Span, Token, TokenKind};
 
 mod constants;
+mod expressions;
+mod spelling;
 mod faults;
 mod tokens;
