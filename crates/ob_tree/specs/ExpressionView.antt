@@ -1,5 +1,5 @@
 -- What the expressions of the program are without their boxes and vectors, and what stands in them.
-use Rattle.std.specs.Prelude.{ℕ, List, [], ◌∷◌}
+use Rattle.std.specs.Prelude.{ℕ, List}
 use Rattle.ob_tree.specs.declared.expressions.Expr.{Expr}
 use Rattle.ob_tree.specs.declared.expressions.ExprNode as from
 use Rattle.ob_tree.specs.declared.expressions.ExprNode.{ExprNode, Row_of-Expr, end_of-Expr, more_of-Expr}
@@ -97,23 +97,9 @@ expr_tree e = node_tree e.node e.first e.at e.line
 abbrev pub spec_tree : Spec → SpecTree
 spec_tree s = spec_node_tree s.node s.first
 
--- lists of trees, as vectors have them
-abbrev pub argument_trees : List Expr → ExprTrees
-argument_trees [] = ExprTrees.NoArguments
-argument_trees (e ∷ es) = ExprTrees.Argument (expr_tree e) (argument_trees es)
+-- one line of members, and one pair of brackets, as a list of one
+abbrev pub one_member : MemberDecl → MemberTrees
+one_member (MemberDecl' f s r names) = MemberTrees.MemberLine (spec_node_tree s f) (obj_row names) MemberTrees.NoMembers
 
-abbrev pub member_trees : List MemberDecl → MemberTrees
-member_trees [] = MemberTrees.NoMembers
-member_trees (MemberDecl' f s r names ∷ ms) = MemberTrees.MemberLine (spec_node_tree s f) (obj_row names) (member_trees ms)
-
-abbrev pub obj_trees : List ObjDecl → ObjTrees
-obj_trees [] = ObjTrees.NoDeclarators
-obj_trees (o ∷ os) = ObjTrees.Declarator (obj_tree o) (obj_trees os)
-
-abbrev pub dim_trees : List Dim → DimTrees
-dim_trees [] = DimTrees.NoDims
-dim_trees (Dim' e ∷ ds) = held_length e (dim_trees ds)
-
-abbrev pub init_trees : List Init → InitTrees
-init_trees [] = InitTrees.NoItems
-init_trees (i ∷ is) = InitTrees.Item (init_tree i) (init_trees is)
+abbrev pub one_dim : Dim → DimTrees
+one_dim (Dim' e) = held_length e DimTrees.NoDims

@@ -36,6 +36,16 @@ abbrev pub spell_comma : Bool → List TokenKind
 spell_comma false = []
 spell_comma true = kind.Sign sign.Comma ∷ []
 
+-- what a list spells, each item with a comma before it
+abbrev pub more_listed : {A : Type 0} → (A → List TokenKind) → List A → List TokenKind
+more_listed f [] = []
+more_listed f (x ∷ xs) = kind.Sign sign.Comma ∷ (f x ++ more_listed f xs)
+
+-- what a list spells, with commas between its items
+abbrev pub listed : {A : Type 0} → (A → List TokenKind) → List A → List TokenKind
+listed f [] = []
+listed f (x ∷ xs) = f x ++ more_listed f xs
+
 -- the comma before the item of this number, counted from 0: before each but the first
 abbrev pub comma_before : ℕ → List TokenKind
 comma_before zero = []

@@ -1,7 +1,8 @@
 ghost use Rattle.std.specs.Prelude.{◌≡◌, [], ◌∷◌, ◌++◌, OnOk, IfOk, map};
+ghost use Rattle.std.specs.List.{flat_map};
 ghost use Rattle.ob_tree.specs.declared.tokens.TokenKind.TheVariants.{Word, Name, Number, Str, Sign};
-ghost use Rattle.ob_tree.specs.Spelling.{stars, spell, spell_arguments, spell_type, spell_spec, spell_members, spell_objs, spell_obj, spell_dims, spell_init, spell_inits, spell_name, spell_comma, spell_step, step_sign, comma_before};
-ghost use Rattle.ob_tree.specs.ExpressionView.{expr_tree, spec_tree, type_tree, obj_tree, init_tree, argument_trees, member_trees, obj_trees, dim_trees, init_trees};
+ghost use Rattle.ob_tree.specs.Spelling.{stars, spell, spell_type, spell_spec, spell_members, spell_obj, spell_dims, spell_init, spell_name, spell_comma, step_sign, listed, comma_before};
+ghost use Rattle.ob_tree.specs.ExpressionView.{expr_tree, spec_tree, type_tree, obj_tree, init_tree, one_member, one_dim};
 
 use crate::expressions::{Dim, Expr, ExprNode, Init, MemberDecl, ObjDecl, Spec, SpecNode, TypeName};
 use crate::tokens::{Keyword, Sign, TokenKind};
@@ -191,7 +192,7 @@ pub fn put_expr(alloc: Global, out: &mut Vec<TokenKind>, e: &Expr) -> Result<(),
 
 #[cycle(spell)]
 fn put_arguments(alloc: Global, out: &mut Vec<TokenKind>, arguments: &[Expr]) -> Result<(), NoMemory>
-    ensures { OnOk result (out.new.items ≡ out.old.items ++ spell_arguments (argument_trees arguments.now)) }
+    ensures { OnOk result (out.new.items ≡ out.old.items ++ listed (λ e. spell (expr_tree e)) arguments.now) }
 {
     for (i, e) in arguments.iter().enumerate() {
         put_comma(out, i)?;
@@ -234,20 +235,27 @@ pub fn put_spec(alloc: Global, out: &mut Vec<TokenKind>, spec: &Spec) -> Result<
 
 #[cycle(spell)]
 fn put_members(alloc: Global, out: &mut Vec<TokenKind>, members: &[MemberDecl]) -> Result<(), NoMemory>
-    ensures { OnOk result (out.new.items ≡ out.old.items ++ spell_members (member_trees members.now)) }
+    ensures { OnOk result (out.new.items ≡ out.old.items ++ flat_map (λ m. spell_members (one_member m)) members.now) }
 {
     for member in members {
-        put_spec(alloc, out, &member.spec)?;
-        put_objs(alloc, out, &member.names)?;
-        put_sign(out, Sign::Semi)?;
+        put_member(alloc, out, member)?;
     }
     Ok(())
+}
+
+#[cycle(spell)]
+fn put_member(alloc: Global, out: &mut Vec<TokenKind>, member: &MemberDecl) -> Result<(), NoMemory>
+    ensures { OnOk result (out.new.items ≡ out.old.items ++ spell_members (one_member member.now)) }
+{
+    put_spec(alloc, out, &member.spec)?;
+    put_objs(alloc, out, &member.names)?;
+    put_sign(out, Sign::Semi)
 }
 
 /// Puts the token kinds of the declarators, with commas between them, behind those of `out`.
 #[cycle(spell)]
 pub fn put_objs(alloc: Global, out: &mut Vec<TokenKind>, names: &[ObjDecl]) -> Result<(), NoMemory>
-    ensures { OnOk result (out.new.items ≡ out.old.items ++ spell_objs (obj_trees names.now)) }
+    ensures { OnOk result (out.new.items ≡ out.old.items ++ listed (λ o. spell_obj (obj_tree o)) names.now) }
 {
     for (i, name) in names.iter().enumerate() {
         put_comma(out, i)?;
@@ -276,16 +284,26 @@ pub fn put_obj(alloc: Global, out: &mut Vec<TokenKind>, name: &ObjDecl) -> Resul
 /// Puts the token kinds of the array brackets behind those of `out`.
 #[cycle(spell)]
 pub fn put_dims(alloc: Global, out: &mut Vec<TokenKind>, dims: &[Dim]) -> Result<(), NoMemory>
-    ensures { OnOk result (out.new.items ≡ out.old.items ++ spell_dims (dim_trees dims.now)) }
+    ensures { OnOk result (out.new.items ≡ out.old.items ++ flat_map (λ d. spell_dims (one_dim d)) dims.now) }
 {
     for dim in dims {
-        put_sign(out, Sign::OpenBracket)?;
-        if let Some(length) = &dim.length {
-            put_expr(alloc, out, length)?;
-        }
-        put_sign(out, Sign::CloseBracket)?;
+        put_dim(alloc, out, dim)?;
     }
     Ok(())
+}
+
+#[cycle(spell)]
+fn put_dim(alloc: Global, out: &mut Vec<TokenKind>, dim: &Dim) -> Result<(), NoMemory>
+    ensures { OnOk result (out.new.items ≡ out.old.items ++ spell_dims (one_dim dim.now)) }
+{
+    put_sign(out, Sign::OpenBracket)?;
+    match &dim.length {
+        None => put_sign(out, Sign::CloseBracket),
+        Some(length) => {
+            put_expr(alloc, out, length)?;
+            put_sign(out, Sign::CloseBracket)
+        }
+    }
 }
 
 #[cycle(spell)]
@@ -305,7 +323,7 @@ fn put_init(alloc: Global, out: &mut Vec<TokenKind>, init: &Init) -> Result<(), 
 
 #[cycle(spell)]
 fn put_inits(alloc: Global, out: &mut Vec<TokenKind>, items: &[Init]) -> Result<(), NoMemory>
-    ensures { OnOk result (out.new.items ≡ out.old.items ++ spell_inits (init_trees items.now)) }
+    ensures { OnOk result (out.new.items ≡ out.old.items ++ listed (λ i. spell_init (init_tree i)) items.now) }
 {
     for (i, item) in items.iter().enumerate() {
         put_comma(out, i)?;
