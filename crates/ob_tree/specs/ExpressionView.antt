@@ -1,5 +1,5 @@
 -- What the expressions of the program are without their boxes and vectors, and what stands in them.
-use Rattle.std.specs.Prelude.{ℕ, List}
+use Rattle.std.specs.Prelude.{ℕ, List, [], ◌∷◌}
 use Rattle.ob_tree.specs.declared.expressions.Expr.{Expr}
 use Rattle.ob_tree.specs.declared.expressions.ExprNode as from
 use Rattle.ob_tree.specs.declared.expressions.ExprNode.{ExprNode, Row_of-Expr, end_of-Expr, more_of-Expr}
@@ -103,3 +103,12 @@ one_member (MemberDecl' f s r names) = MemberTrees.MemberLine (spec_node_tree s 
 
 abbrev pub one_dim : Dim → DimTrees
 one_dim (Dim' e) = held_length e DimTrees.NoDims
+
+-- the declarators and the brackets of a vector
+abbrev pub obj_trees : List ObjDecl → ObjTrees
+obj_trees [] = ObjTrees.NoDeclarators
+obj_trees (o ∷ os) = ObjTrees.Declarator (obj_tree o) (obj_trees os)
+
+abbrev pub dim_trees : List Dim → DimTrees
+dim_trees [] = DimTrees.NoDims
+dim_trees (Dim' e ∷ ds) = held_length e (dim_trees ds)

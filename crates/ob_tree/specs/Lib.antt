@@ -18,3 +18,4 @@ pub mod Paths
 pub mod ProgramPaths
 pub mod Fronts
 pub mod ExpressionView
+pub mod ProgramView

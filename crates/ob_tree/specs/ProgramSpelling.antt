@@ -1,12 +1,13 @@
 -- The token kinds of statements and external declarations, in order (C99 6.7 to 6.9).
 use Rattle.std.specs.Prelude.{ℕ, Bool, false, true, List, [], ◌∷◌, ◌++◌, Option, Some, None}
+use Rattle.std.specs.List.{flat_map}
 use Rattle.ob_tree.specs.declared.tokens.TokenKind.{TokenKind}
 use Rattle.ob_tree.specs.declared.tokens.TokenKind.TheVariants as kind
 use Rattle.ob_tree.specs.declared.tokens.Keyword.TheVariants as word
 use Rattle.ob_tree.specs.declared.tokens.Sign.TheVariants as sign
 use Rattle.ob_tree.specs.Trees.{ExprTree}
 use Rattle.ob_tree.specs.Programs.{LocalTree, StartTree, StmtTree, BlockTrees, ParamTree, ParamsTree, FileTree, ItemTree, ProgramTree}
-use Rattle.ob_tree.specs.Spelling.{spell, spell_spec, spell_objs, spell_obj, spell_dims, spell_name, stars}
+use Rattle.ob_tree.specs.Spelling.{spell, spell_spec, spell_objs, spell_obj, spell_dims, spell_name, stars, listed}
 
 -- an expression that may be left out
 abbrev pub spell_option : Option ExprTree → List TokenKind
@@ -51,20 +52,10 @@ abbrev mutual
 abbrev pub spell_param : ParamTree → List TokenKind
 spell_param p = spell_spec p.spec ++ (stars p.stars ++ (spell_name p.name ++ spell_dims p.dims))
 
--- parameters with a comma before each
-abbrev pub spell_more_params : List ParamTree → List TokenKind
-spell_more_params [] = []
-spell_more_params (p ∷ ps) = kind.Sign sign.Comma ∷ (spell_param p ++ spell_more_params ps)
-
--- parameters with commas between them
-abbrev pub spell_param_list : List ParamTree → List TokenKind
-spell_param_list [] = []
-spell_param_list (p ∷ ps) = spell_param p ++ spell_more_params ps
-
 abbrev pub spell_params : ParamsTree → List TokenKind
 spell_params ParamsTree.Empty = []
 spell_params ParamsTree.Void = kind.Word word.Void ∷ []
-spell_params (ParamsTree.Listed ps) = spell_param_list ps
+spell_params (ParamsTree.Listed ps) = listed spell_param ps
 
 -- a function declarator
 abbrev pub spell_function : ℕ → List ℕ → ParamsTree → List TokenKind
@@ -75,22 +66,11 @@ abbrev pub spell_file : FileTree → List TokenKind
 spell_file (FileTree.Function n name a ps) = spell_function n name ps
 spell_file (FileTree.Object o) = spell_obj o
 
--- declarators with a comma before each
-abbrev pub spell_more_files : List FileTree → List TokenKind
-spell_more_files [] = []
-spell_more_files (d ∷ ds) = kind.Sign sign.Comma ∷ (spell_file d ++ spell_more_files ds)
-
--- declarators with commas between them
-abbrev pub spell_files : List FileTree → List TokenKind
-spell_files [] = []
-spell_files (d ∷ ds) = spell_file d ++ spell_more_files ds
-
 abbrev pub spell_item : ItemTree → List TokenKind
 spell_item (ItemTree.Function f n fixed s stars name a ps body) =
     spell_static fixed ++ (spell_spec s ++ (spell_function stars name ps ++ spell_stmt body))
 spell_item (ItemTree.Decls f n fixed s ds) =
-    spell_static fixed ++ (spell_spec s ++ (spell_files ds ++ kind.Sign sign.Semi ∷ []))
+    spell_static fixed ++ (spell_spec s ++ (listed spell_file ds ++ kind.Sign sign.Semi ∷ []))
 
 abbrev pub spell_program : ProgramTree → List TokenKind
-spell_program [] = []
-spell_program (i ∷ is) = spell_item i ++ spell_program is
+spell_program items = flat_map spell_item items
