@@ -13,8 +13,8 @@ stars-more (suc n) =
     ap stars e ∙ ap (λ ks. kind.Sign sign.Star ∷ ks) (stars-more n)
 
 more_listed-step : {A : Type 0} (f : A → List TokenKind) (xs : List A) (i : ℕ) (x : A) →
-  i < length xs → x ≡ get_or xs i x →
-  more_listed f (take (suc i) xs) ≡ more_listed f (take i xs) ++ kind.Sign sign.Comma ∷ f x
+    i < length xs → x ≡ get_or xs i x →
+    more_listed f (take (suc i) xs) ≡ more_listed f (take i xs) ++ kind.Sign sign.Comma ∷ f x
 more_listed-step f [] i x h is = absurd (omega arith)
 more_listed-step f (y ∷ ys) zero x h is =
     ap (λ ks. kind.Sign sign.Comma ∷ ks) (append-nil (f y) ∙ ap f (sym is))
@@ -23,8 +23,8 @@ more_listed-step f (y ∷ ys) (suc i) x h is =
     ∙ ap (λ ks. kind.Sign sign.Comma ∷ ks) (sym (append_assoc (f y) (more_listed f (take i ys)) (kind.Sign sign.Comma ∷ f x)))
 
 listed-step : {A : Type 0} (f : A → List TokenKind) (xs : List A) (i : ℕ) (x : A) →
-  i < length xs → x ≡ get_or xs i x →
-  listed f (take (suc i) xs) ≡ listed f (take i xs) ++ (comma_before i ++ f x)
+    i < length xs → x ≡ get_or xs i x →
+    listed f (take (suc i) xs) ≡ listed f (take i xs) ++ (comma_before i ++ f x)
 listed-step f [] i x h is = absurd (omega arith)
 listed-step f (y ∷ ys) zero x h is = append-nil (f y) ∙ ap f (sym is)
 listed-step f (y ∷ ys) (suc i) x h is =
@@ -33,9 +33,9 @@ listed-step f (y ∷ ys) (suc i) x h is =
 
 -- one turn of a loop that puts an item and the comma before it
 pub listed-turn : {A : Type 0} (f : A → List TokenKind) (before out after : List TokenKind) (xs : List A) (i : ℕ) (x : A) →
-  out ≡ before ++ listed f (take i xs) → i < length xs → x ≡ get_or xs i x →
-  after ≡ (out ++ comma_before i) ++ f x →
-  after ≡ before ++ listed f (take (i + 1) xs)
+    out ≡ before ++ listed f (take i xs) → i < length xs → x ≡ get_or xs i x →
+    after ≡ (out ++ comma_before i) ++ f x →
+    after ≡ before ++ listed f (take (i + 1) xs)
 listed-turn f before out after xs i x o h is a =
     let e : i + 1 ≡ suc i = omega arith in
     a ∙ append_assoc out (comma_before i) (f x)

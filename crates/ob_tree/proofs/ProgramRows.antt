@@ -19,7 +19,7 @@ use Rattle.ob_tree.specs.declared.programs.StmtNode as node
 use Rattle.ob_tree.specs.Spelling.{spell, spell_objs, spell_more_objs, spell_obj, spell_dims, listed, more_listed}
 use Rattle.ob_tree.specs.ProgramSpelling.{spell_local, spell_stmt, spell_block}
 use Rattle.ob_tree.specs.ExpressionView.{node_tree, obj_tree, obj_trees, dim_trees, one_dim}
-use Rattle.ob_tree.specs.ProgramView.{stmt_tree, stmt_node_tree, block_row, in_front, one_item, local_tree}
+use Rattle.ob_tree.specs.ProgramView.{stmt_tree, stmt_node_tree, block_row, one_item, local_tree}
 
 more_listed_map : {A B : Type 0} (f : B → List TokenKind) (g : A → B) (xs : List A) → more_listed f (map g xs) ≡ more_listed (λ x. f (g x)) xs
 more_listed_map f g [] = refl
@@ -58,10 +58,10 @@ items n end_of-BlockItem = refl
 items n (more_of-BlockItem i is) = item_first i _ is ∙ ap (λ ks. spell_block (one_item i) ++ ks) (items _ is)
 
 pub block_spelled : (s : Stmt) (is : Vec BlockItem Global) → s.node ≡ node.Block is →
-  spell_stmt (stmt_tree s) ≡ kind.Sign sign.OpenBrace ∷ (flat_map (λ i. spell_block (one_item i)) is.items ++ kind.Sign sign.CloseBrace ∷ [])
+    spell_stmt (stmt_tree s) ≡ kind.Sign sign.OpenBrace ∷ (flat_map (λ i. spell_block (one_item i)) is.items ++ kind.Sign sign.CloseBrace ∷ [])
 block_spelled s is h =
     ap (λ n. spell_stmt (stmt_node_tree n s.first s.line)) h
     ∙ ap (λ ks. kind.Sign sign.OpenBrace ∷ (ks ++ kind.Sign sign.CloseBrace ∷ []))
-        (items _ (block.hidden-the_row-BlockItem-0 is) ∙ ap (flat_map (λ i. spell_block (one_item i))) (items_hidden-the_row-BlockItem-0 is))
+    (items _ (block.hidden-the_row-BlockItem-0 is) ∙ ap (flat_map (λ i. spell_block (one_item i))) (items_hidden-the_row-BlockItem-0 is))
 
 pub ruleset mapped_lists = (listed_map, flat_map_map, dim_trees_spelled, append_assoc)

@@ -9,13 +9,5 @@ pub mod Trees
 pub mod Programs
 pub mod Spelling
 pub mod ProgramSpelling
-pub mod Levels
-pub mod Grammar
-pub mod ProgramGrammar
-pub mod Places
-pub mod ProgramPlaces
-pub mod Paths
-pub mod ProgramPaths
-pub mod Fronts
 pub mod ExpressionView
 pub mod ProgramView

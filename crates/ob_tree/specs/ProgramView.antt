@@ -28,12 +28,12 @@ option_tree (Some e) = Some (expr_tree e)
 
 abbrev pub local_tree : Local → LocalTree
 local_tree l = record {
-    first = l.first;
-    line = l.line;
-    fixed = l.fixed;
-    spec = spec_tree l.spec;
-    names = obj_trees l.names.items
-  }
+  first = l.first;
+  line = l.line;
+  fixed = l.fixed;
+  spec = spec_tree l.spec;
+  names = obj_trees l.names.items;
+}
 
 abbrev pub start_tree : ForStart → StartTree
 start_tree (start.Expr e) = StartTree.Expr (option_tree e)
@@ -73,14 +73,14 @@ one_item i = in_front i BlockTrees.NoItems
 
 abbrev pub param_tree : Param → ParamTree
 param_tree p = record {
-    first = p.first;
-    line = p.line;
-    spec = spec_tree p.spec;
-    stars = p.stars;
-    name = p.name;
-    at = p.at;
-    dims = dim_trees p.dims.items
-  }
+  first = p.first;
+  line = p.line;
+  spec = spec_tree p.spec;
+  stars = p.stars;
+  name = p.name;
+  at = p.at;
+  dims = dim_trees p.dims.items;
+}
 
 abbrev pub params_tree : Params → ParamsTree
 params_tree params.Empty = ParamsTree.Empty

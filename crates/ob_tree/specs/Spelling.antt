@@ -1,5 +1,5 @@
 -- The token kinds of an expression and of what stands in it, in order (C99 6.5, 6.7).
-use Rattle.std.specs.Prelude.{ℕ, zero, suc, Bool, false, true, List, [], ◌∷◌, ◌++◌, length, map, Option, Some, None}
+use Rattle.std.specs.Prelude.{ℕ, zero, suc, Bool, false, true, List, [], ◌∷◌, ◌++◌, map, Option, Some, None}
 use Rattle.ob_tree.specs.declared.tokens.TokenKind.{TokenKind}
 use Rattle.ob_tree.specs.declared.tokens.TokenKind.TheVariants as kind
 use Rattle.ob_tree.specs.declared.tokens.Keyword.TheVariants as word
@@ -134,28 +134,3 @@ abbrev mutual
   pub spell_more_inits : InitTrees → List TokenKind
   spell_more_inits InitTrees.NoItems = []
   spell_more_inits (InitTrees.Item i is) = kind.Sign sign.Comma ∷ (spell_init i ++ spell_more_inits is)
-
--- The tokens of a tree are counted by its width.
-abbrev pub width : ExprTree → ℕ
-width e = length (spell e)
-
-abbrev pub width_type : TypeTree → ℕ
-width_type t = length (spell_type t)
-
-abbrev pub width_spec : SpecTree → ℕ
-width_spec s = length (spell_spec s)
-
-abbrev pub width_objs : ObjTrees → ℕ
-width_objs os = length (spell_objs os)
-
-abbrev pub width_obj : ObjTree → ℕ
-width_obj o = length (spell_obj o)
-
-abbrev pub width_dims : DimTrees → ℕ
-width_dims ds = length (spell_dims ds)
-
-abbrev pub width_init : InitTree → ℕ
-width_init i = length (spell_init i)
-
-abbrev pub width_name : Option (List ℕ) → ℕ
-width_name name = length (spell_name name)

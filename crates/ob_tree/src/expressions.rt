@@ -20,7 +20,10 @@ pub struct Expr {
 pub enum ExprNode {
     Name(Text),
     /// An integer constant or a character constant: a number of its type.
-    Number { value: i128, ty: IntType },
+    Number {
+        value: i128,
+        ty: IntType,
+    },
     /// The word `NULL`.
     Null,
     /// The word `EOF`.
@@ -38,7 +41,11 @@ pub enum ExprNode {
     /// A pointer to a structure and a member's name: `->` (C99 6.5.2.3).
     Arrow(Box<Expr>, Text),
     /// `++` or, where `down`, `--`; behind its operand where `post`, else before it.
-    Step { post: bool, down: bool, e: Box<Expr> },
+    Step {
+        post: bool,
+        down: bool,
+        e: Box<Expr>,
+    },
     /// One of `& * + - ~ !` before its operand (C99 6.5.3).
     Unary(Sign, Box<Expr>),
     /// `sizeof` before an expression (C99 6.5.3.4).
@@ -84,7 +91,10 @@ pub enum SpecNode {
     /// `struct` and a tag.
     Tag(Text),
     /// `struct` with a tag or none, and member declarations (C99 6.7.2.1).
-    Struct { tag: Option<Text>, members: Vec<MemberDecl> },
+    Struct {
+        tag: Option<Text>,
+        members: Vec<MemberDecl>,
+    },
 }
 
 /// A declaration of members, whose declarators have no initialisers.
@@ -120,5 +130,9 @@ pub struct Dim {
 #[derive(Drop)]
 pub enum Init {
     Value(Expr),
-    List { first: u32, items: Vec<Init>, comma: bool },
+    List {
+        first: u32,
+        items: Vec<Init>,
+        comma: bool,
+    },
 }

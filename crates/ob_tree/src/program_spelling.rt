@@ -6,8 +6,13 @@ ghost use Rattle.ob_tree.specs.ProgramSpelling.{spell_option, spell_static, spel
 ghost use Rattle.ob_tree.specs.ProgramView.{option_tree, local_tree, start_tree, stmt_tree, one_item, param_tree, params_tree, file_tree, item_tree, program_tree};
 
 use crate::expressions::Expr;
-use crate::programs::{BlockItem, FileDecl, ForStart, Item, ItemNode, Local, Param, Params, Program, Stmt, StmtNode};
-use crate::spelling::{put_comma, put_dims, put_expr, put_name, put_obj, put_objs, put_optional_name, put_sign, put_spec, put_stars, put_word};
+use crate::programs::{
+    BlockItem, FileDecl, ForStart, Item, ItemNode, Local, Param, Params, Program, Stmt, StmtNode,
+};
+use crate::spelling::{
+    put_comma, put_dims, put_expr, put_name, put_obj, put_objs, put_optional_name, put_sign,
+    put_spec, put_stars, put_word,
+};
 use crate::tokens::{Keyword, Sign, TokenKind};
 use ob_base::{NoMemory, Text};
 use std::alloc::Global;
@@ -24,7 +29,11 @@ fn put_option(alloc: Global, out: &mut Vec<TokenKind>, e: &Option<Expr>) -> Resu
 fn put_static(out: &mut Vec<TokenKind>, fixed: bool) -> Result<(), NoMemory>
     ensures { OnOk result (out.new.items ≡ out.old.items ++ spell_static fixed) }
 {
-    if fixed { put_word(out, Keyword::Static) } else { Ok(()) }
+    if fixed {
+        put_word(out, Keyword::Static)
+    } else {
+        Ok(())
+    }
 }
 
 fn put_local(alloc: Global, out: &mut Vec<TokenKind>, local: &Local) -> Result<(), NoMemory>
@@ -64,7 +73,12 @@ fn put_for(alloc: Global, out: &mut Vec<TokenKind>, start: &ForStart) -> Result<
     put_start(alloc, out, start)
 }
 
-fn put_turn(alloc: Global, out: &mut Vec<TokenKind>, test: &Option<Expr>, next: &Option<Expr>) -> Result<(), NoMemory>
+fn put_turn(
+    alloc: Global,
+    out: &mut Vec<TokenKind>,
+    test: &Option<Expr>,
+    next: &Option<Expr>,
+) -> Result<(), NoMemory>
     ensures { OnOk result (out.new.items ≡ out.old.items ++ (spell_option (option_tree test.now) ++ TokenKind.Sign Sign.Semi ∷ (spell_option (option_tree next.now) ++ TokenKind.Sign Sign.CloseParen ∷ []))) }
 {
     put_option(alloc, out, test)?;
@@ -111,7 +125,12 @@ fn put_stmt(alloc: Global, out: &mut Vec<TokenKind>, stmt: &Stmt) -> Result<(), 
             put_test(alloc, out, test)?;
             put_sign(out, Sign::Semi)
         }
-        StmtNode::For { start, test, next, body } => {
+        StmtNode::For {
+            start,
+            test,
+            next,
+            body,
+        } => {
             put_for(alloc, out, start)?;
             put_turn(alloc, out, test, next)?;
             put_stmt(alloc, out, body)
@@ -183,7 +202,13 @@ fn put_params(alloc: Global, out: &mut Vec<TokenKind>, params: &Params) -> Resul
     }
 }
 
-fn put_function(alloc: Global, out: &mut Vec<TokenKind>, stars: u32, name: &Text, params: &Params) -> Result<(), NoMemory>
+fn put_function(
+    alloc: Global,
+    out: &mut Vec<TokenKind>,
+    stars: u32,
+    name: &Text,
+    params: &Params,
+) -> Result<(), NoMemory>
     ensures { OnOk result (out.new.items ≡ out.old.items ++ spell_function stars name.now (params_tree params.now)) }
 {
     put_stars(out, stars)?;
@@ -197,12 +222,21 @@ fn put_file(alloc: Global, out: &mut Vec<TokenKind>, declarator: &FileDecl) -> R
     ensures { OnOk result (out.new.items ≡ out.old.items ++ spell_file (file_tree declarator.now)) }
 {
     match declarator {
-        FileDecl::Function { stars, name, at: _, params } => put_function(alloc, out, *stars, name, params),
+        FileDecl::Function {
+            stars,
+            name,
+            at: _,
+            params,
+        } => put_function(alloc, out, *stars, name, params),
         FileDecl::Object(object) => put_obj(alloc, out, object),
     }
 }
 
-fn put_files(alloc: Global, out: &mut Vec<TokenKind>, declarators: &[FileDecl]) -> Result<(), NoMemory>
+fn put_files(
+    alloc: Global,
+    out: &mut Vec<TokenKind>,
+    declarators: &[FileDecl],
+) -> Result<(), NoMemory>
     ensures { OnOk result (out.new.items ≡ out.old.items ++ listed (λ d. spell_file (file_tree d)) declarators.now) }
 {
     for (i, declarator) in declarators.iter().enumerate() {
@@ -219,7 +253,13 @@ fn put_item(alloc: Global, out: &mut Vec<TokenKind>, item: &Item) -> Result<(), 
     put_static(out, item.fixed)?;
     put_spec(alloc, out, &item.spec)?;
     match &item.node {
-        ItemNode::Function { stars, name, at: _, params, body } => {
+        ItemNode::Function {
+            stars,
+            name,
+            at: _,
+            params,
+            body,
+        } => {
             put_function(alloc, out, *stars, name, params)?;
             put_stmt(alloc, out, body)
         }

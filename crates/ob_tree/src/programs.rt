@@ -22,14 +22,25 @@ pub struct Item {
 /// body, or declarators. `at` is the place of the name's token, and `stars` counts the `*` before it.
 #[derive(Drop)]
 pub enum ItemNode {
-    Function { stars: u32, name: Text, at: u32, params: Params, body: Stmt },
+    Function {
+        stars: u32,
+        name: Text,
+        at: u32,
+        params: Params,
+        body: Stmt,
+    },
     Decls(Vec<FileDecl>),
 }
 
 /// A declarator at file scope.
 #[derive(Drop)]
 pub enum FileDecl {
-    Function { stars: u32, name: Text, at: u32, params: Params },
+    Function {
+        stars: u32,
+        name: Text,
+        at: u32,
+        params: Params,
+    },
     Object(ObjDecl),
 }
 
@@ -91,7 +102,12 @@ pub enum StmtNode {
     If(Expr, Box<Stmt>, Option<Box<Stmt>>),
     While(Expr, Box<Stmt>),
     Do(Box<Stmt>, Expr),
-    For { start: ForStart, test: Option<Expr>, next: Option<Expr>, body: Box<Stmt> },
+    For {
+        start: ForStart,
+        test: Option<Expr>,
+        next: Option<Expr>,
+        body: Box<Stmt>,
+    },
     Break,
     Continue,
     Return(Option<Expr>),

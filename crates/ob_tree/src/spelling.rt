@@ -4,7 +4,9 @@ ghost use Rattle.ob_tree.specs.declared.tokens.TokenKind.TheVariants.{Word, Name
 ghost use Rattle.ob_tree.specs.Spelling.{stars, spell, spell_type, spell_spec, spell_members, spell_obj, spell_dims, spell_init, spell_name, spell_comma, step_sign, listed, comma_before};
 ghost use Rattle.ob_tree.specs.ExpressionView.{expr_tree, spec_tree, type_tree, obj_tree, init_tree, one_member, one_dim};
 
-use crate::expressions::{Dim, Expr, ExprNode, Init, MemberDecl, ObjDecl, Spec, SpecNode, TypeName};
+use crate::expressions::{
+    Dim, Expr, ExprNode, Init, MemberDecl, ObjDecl, Spec, SpecNode, TypeName,
+};
 use crate::tokens::{Keyword, Sign, TokenKind};
 use ob_base::{NoMemory, Text};
 use std::alloc::Global;
@@ -67,7 +69,11 @@ fn put_words(out: &mut Vec<TokenKind>, words: &[Keyword]) -> Result<(), NoMemory
     Ok(())
 }
 
-pub fn put_optional_name(alloc: Global, out: &mut Vec<TokenKind>, name: &Option<Text>) -> Result<(), NoMemory>
+pub fn put_optional_name(
+    alloc: Global,
+    out: &mut Vec<TokenKind>,
+    name: &Option<Text>,
+) -> Result<(), NoMemory>
     ensures { OnOk result (out.new.items ≡ out.old.items ++ spell_name name.now) }
 {
     match name {
@@ -79,7 +85,11 @@ pub fn put_optional_name(alloc: Global, out: &mut Vec<TokenKind>, name: &Option<
 fn put_step(out: &mut Vec<TokenKind>, down: bool) -> Result<(), NoMemory>
     ensures { OnOk result (out.new.items ≡ out.old.items ++ TokenKind.Sign (step_sign down) ∷ []) }
 {
-    if down { put_sign(out, Sign::MinusMinus) } else { put_sign(out, Sign::PlusPlus) }
+    if down {
+        put_sign(out, Sign::MinusMinus)
+    } else {
+        put_sign(out, Sign::PlusPlus)
+    }
 }
 
 /// Puts the comma that stands before the item of this number, counted from 0: before each but the
@@ -87,13 +97,21 @@ fn put_step(out: &mut Vec<TokenKind>, down: bool) -> Result<(), NoMemory>
 pub fn put_comma(out: &mut Vec<TokenKind>, number: usize) -> Result<(), NoMemory>
     ensures { OnOk result (out.new.items ≡ out.old.items ++ comma_before number) }
 {
-    if number == 0 { Ok(()) } else { put_sign(out, Sign::Comma) }
+    if number == 0 {
+        Ok(())
+    } else {
+        put_sign(out, Sign::Comma)
+    }
 }
 
 fn put_last_comma(out: &mut Vec<TokenKind>, comma: bool) -> Result<(), NoMemory>
     ensures { OnOk result (out.new.items ≡ out.old.items ++ spell_comma comma) }
 {
-    if comma { put_sign(out, Sign::Comma) } else { Ok(()) }
+    if comma {
+        put_sign(out, Sign::Comma)
+    } else {
+        Ok(())
+    }
 }
 
 /// Puts the token kinds of the expression behind those of `out`.
@@ -104,7 +122,10 @@ pub fn put_expr(alloc: Global, out: &mut Vec<TokenKind>, e: &Expr) -> Result<(),
     match &e.node {
         ExprNode::Name(name) => put_name(alloc, out, name),
         ExprNode::Number { value, ty } => {
-            out.push(TokenKind::Number { value: *value, ty: *ty })?;
+            out.push(TokenKind::Number {
+                value: *value,
+                ty: *ty,
+            })?;
             Ok(())
         }
         ExprNode::Null => put_word(out, Keyword::Null),
@@ -137,11 +158,19 @@ pub fn put_expr(alloc: Global, out: &mut Vec<TokenKind>, e: &Expr) -> Result<(),
             put_sign(out, Sign::Arrow)?;
             put_name(alloc, out, name)
         }
-        ExprNode::Step { post: true, down, e } => {
+        ExprNode::Step {
+            post: true,
+            down,
+            e,
+        } => {
             put_expr(alloc, out, e)?;
             put_step(out, *down)
         }
-        ExprNode::Step { post: false, down, e } => {
+        ExprNode::Step {
+            post: false,
+            down,
+            e,
+        } => {
             put_step(out, *down)?;
             put_expr(alloc, out, e)
         }
@@ -191,7 +220,11 @@ pub fn put_expr(alloc: Global, out: &mut Vec<TokenKind>, e: &Expr) -> Result<(),
 }
 
 #[cycle(spell)]
-fn put_arguments(alloc: Global, out: &mut Vec<TokenKind>, arguments: &[Expr]) -> Result<(), NoMemory>
+fn put_arguments(
+    alloc: Global,
+    out: &mut Vec<TokenKind>,
+    arguments: &[Expr],
+) -> Result<(), NoMemory>
     ensures { OnOk result (out.new.items ≡ out.old.items ++ listed (λ e. spell (expr_tree e)) arguments.now) }
 {
     for (i, e) in arguments.iter().enumerate() {
@@ -234,7 +267,11 @@ pub fn put_spec(alloc: Global, out: &mut Vec<TokenKind>, spec: &Spec) -> Result<
 }
 
 #[cycle(spell)]
-fn put_members(alloc: Global, out: &mut Vec<TokenKind>, members: &[MemberDecl]) -> Result<(), NoMemory>
+fn put_members(
+    alloc: Global,
+    out: &mut Vec<TokenKind>,
+    members: &[MemberDecl],
+) -> Result<(), NoMemory>
     ensures { OnOk result (out.new.items ≡ out.old.items ++ flat_map (λ m. spell_members (one_member m)) members.now) }
 {
     for member in members {
@@ -312,7 +349,11 @@ fn put_init(alloc: Global, out: &mut Vec<TokenKind>, init: &Init) -> Result<(), 
 {
     match init {
         Init::Value(e) => put_expr(alloc, out, e),
-        Init::List { first: _, items, comma } => {
+        Init::List {
+            first: _,
+            items,
+            comma,
+        } => {
             put_sign(out, Sign::OpenBrace)?;
             put_inits(alloc, out, items)?;
             put_last_comma(out, *comma)?;

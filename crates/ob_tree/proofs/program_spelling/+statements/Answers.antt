@@ -1,11 +1,8 @@
-use Rattle.std.proofs.Common.{rules, ◌≡◌, [], ◌∷◌, ◌++◌, OnOk, List, arith, subst, sym, ap, ◌∙◌}
+use Rattle.std.proofs.Common.{rules, ◌≡◌, ◌++◌, OnOk, List, arith, subst, sym}
 use Rattle.std.proofs.lemmas.Grind.{common_steps}
 use Rattle.std.proofs.lemmas.List.{append_assoc}
 use Rattle.std.proofs.lemmas.Result.{IfOk-equal}
 use Rattle.ob_tree.specs.declared.tokens.TokenKind.{TokenKind}
-use Rattle.ob_tree.specs.declared.programs.StmtNode as node
-use Rattle.ob_tree.specs.ProgramSpelling.{spell_stmt}
-use Rattle.ob_tree.specs.ProgramView.{stmt_node_tree}
 use Rattle.ob_tree.proofs.ProgramRows.{block_spelled}
 use Rattle.ob_tree.proofs.program_spelling.+statements.Goals as goal
 

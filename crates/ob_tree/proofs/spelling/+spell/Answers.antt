@@ -1,4 +1,4 @@
-use Rattle.std.proofs.Common.{rules, ◌≡◌, [], ◌∷◌, ◌++◌, OnOk, ◌+◌, ◌<◌, length, List, get_or, take, arith, subst, sym}
+use Rattle.std.proofs.Common.{rules, ◌≡◌, ◌++◌, OnOk, ◌<◌, length, List, get_or, arith, subst, sym}
 use Rattle.std.proofs.lemmas.Grind.{common_steps}
 use Rattle.std.proofs.lemmas.List.{append_assoc}
 use Rattle.std.proofs.lemmas.Result.{IfOk-equal}
