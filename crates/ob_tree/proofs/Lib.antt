@@ -1,3 +1,6 @@
 pub mod Decimals
 pub mod Sums
 pub mod Prints
+pub mod Lists
+pub mod ProgramRows
+pub mod Rows

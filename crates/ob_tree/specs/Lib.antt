@@ -7,3 +7,9 @@ pub mod Spaces
 pub mod Pieces
 pub mod First
 pub mod Starts
+pub mod Trees
+pub mod Programs
+pub mod Spelling
+pub mod ProgramSpelling
+pub mod ExpressionView
+pub mod ProgramView

@@ -1,16 +1,26 @@
-//! The tokens of a source text and the faults that it can have, and the trees that it is read into;
-//! so far those of the first form. Stands on `ob_base` and `ob_words`.
+//! The tokens of a source text and the faults that it can have, the trees of the grammar, and the
+//! tokens that a tree spells (C99 6.4 to 6.9); and the texts that are run so far, which are read
+//! without tokens. Stands on `ob_base` and `ob_words`.
 #![tactic(auto)]
 
 pub use constants::{Base, Suffix};
+pub use expressions::{Dim, Expr, ExprNode, Init, MemberDecl, ObjDecl, Spec, SpecNode, TypeName};
 pub use faults::{LexFault, LexKind};
 pub use first::{First, FirstFault, law_first_text, parse_first};
+pub use program_spelling::spell;
+pub use programs::{
+    BlockItem, FileDecl, ForStart, Item, ItemNode, Local, Param, Params, Program, Stmt, StmtNode,
+};
 pub use tokens::{Keyword, Sign, Span, Token, TokenKind};
 
 mod constant;
 mod constants;
+mod expressions;
 mod faults;
 mod first;
+mod program_spelling;
+mod programs;
+mod spelling;
 mod statement;
 mod sum;
 mod text;
