@@ -6,7 +6,7 @@ use crate::faults::Stop;
 
 /// A number in `size` bytes, the lowest first, that is at most `limit`. It stops at the first byte from
 /// which no such number is left.
-#[tactic(auto, unfolding(crate::specs::Reading::number, crate::specs::Reading::one, crate::specs::Reading::gives))]
+#[tactic(auto, unfolding(crate::specs::Reading::number, crate::specs::Reading::gives))]
 fn number(size: u32, limit: u64, bytes: &[u8]) -> Result<(u64, &[u8]), Stop>
     ensures value { Gives (λ x. (x.0, x.1.now)) result (number size limit bytes.now) }
     ensures most { IfOk result (λ x. x.0 ≤ limit) }
@@ -15,12 +15,15 @@ fn number(size: u32, limit: u64, bytes: &[u8]) -> Result<(u64, &[u8]), Stop>
         return Ok((0, bytes));
     }
     match bytes {
-        [low, rest @ ..] if u64::from(*low) <= limit => {
+        [] => Err(Stop::Left(0)),
+        [low, rest @ ..] => {
             let low = u64::from(*low);
+            if limit < low {
+                return Err(Stop::Left(bytes.len()));
+            }
             let (high, rest) = number(size - 1, (limit - low) / 256, rest)?;
             Ok((low + 256 * high, rest))
         }
-        _ => Err(Stop::Left(bytes.len())),
     }
 }
 
@@ -74,9 +77,12 @@ pub(crate) fn operation(bytes: &[u8]) -> Result<(u8, &[u8]), Stop>
 pub(crate) fn exactly<'a>(text: &[u8], bytes: &'a [u8]) -> Result<&'a [u8], Stop>
     ensures { Gives (λ x. (text.now, x.now)) result (exactly text.now bytes.now) }
 {
-    match (text, bytes) {
-        ([], _) => Ok(bytes),
-        ([wanted, text @ ..], [byte, rest @ ..]) if wanted == byte => exactly(text, rest),
-        _ => Err(Stop::Left(bytes.len())),
+    match text {
+        [] => Ok(bytes),
+        [wanted, others @ ..] => match bytes {
+            [] => Err(Stop::Left(0)),
+            [byte, ..] if byte != wanted => Err(Stop::Left(bytes.len())),
+            [_, rest @ ..] => exactly(others, rest),
+        },
     }
 }

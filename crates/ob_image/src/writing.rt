@@ -10,6 +10,7 @@ use ob_base::NoMemory;
 use ob_code::{FunctionRow, Image, Instr, LocalRow, PointerRow, StaticRow, Verified};
 use std::alloc::Global;
 
+#[tactic(auto, using(crate::proofs::Digits::byte_is))]
 fn put_byte(out: &mut Vec<u8>, n: u8) -> Result<(), NoMemory>
     ensures { OnOk result (out.new.items ≡ out.old.items ++ low_bytes 1 n) }
 {
@@ -17,6 +18,15 @@ fn put_byte(out: &mut Vec<u8>, n: u8) -> Result<(), NoMemory>
     Ok(())
 }
 
+#[tactic(auto, unfolding(ob_words::specs::Fields::low_bytes))]
+fn put_zeros(out: &mut Vec<u8>) -> Result<(), NoMemory>
+    ensures { OnOk result (out.new.items ≡ out.old.items ++ low_bytes 2 0) }
+{
+    out.extend_from_slice(&[0, 0])?;
+    Ok(())
+}
+
+#[tactic(auto, using(crate::proofs::Digits::word_is))]
 fn put_word(out: &mut Vec<u8>, n: u32) -> Result<(), NoMemory>
     ensures { OnOk result (out.new.items ≡ out.old.items ++ low_bytes 4 n) }
 {
@@ -24,6 +34,7 @@ fn put_word(out: &mut Vec<u8>, n: u32) -> Result<(), NoMemory>
     Ok(())
 }
 
+#[tactic(auto, using(crate::proofs::Digits::long_is))]
 fn put_long(out: &mut Vec<u8>, n: u64) -> Result<(), NoMemory>
     ensures { OnOk result (out.new.items ≡ out.old.items ++ low_bytes 8 n) }
 {
@@ -44,11 +55,23 @@ fn put_fields(out: &mut Vec<u8>, f: Fields) -> Result<(), NoMemory>
 {
     put_byte(out, f.op)?;
     put_byte(out, f.kind)?;
-    put_byte(out, 0)?;
-    put_byte(out, 0)?;
+    put_zeros(out)?;
     put_word(out, f.line)?;
     put_word(out, f.a)?;
     put_word(out, f.b)?;
     put_word(out, f.c)?;
-    put_long(out, f.imm)
+    put_long(out, f.imm)?;
+    Ok(())
+}
+
+trait Spelled {
+    ghost use Rattle.std.specs.Prelude.{List, ℕ};
+
+    ghost spelling: { Self → List ℕ };
+
+    ghost is_short: { Self → Type 0 };
+
+    fn put(&self, out: &mut Vec<u8>) -> Result<(), NoMemory>
+        requires { is_short self.now }
+        ensures { OnOk result (out.new.items ≡ out.old.items ++ spelling self.now) };
 }
