@@ -111,3 +111,13 @@ exactly_gives text bytes (Ok x) long some same given =
     ∙ ap (λ (b : ℕ). read_as (b ∷ drop 1 text, x.now)) same ∙ ap (λ (t : List ℕ). read_as (t, x.now)) (first_is text long)
 exactly_gives text bytes (Err stops.Memory) long some same given = tt
 exactly_gives text bytes (Err (stops.Left left)) long some same given = exactly_more text bytes long some same ∙ ap (with_first (get_or bytes 0 0)) given
+
+-- the low bytes of a number are those of its remainder
+pub count_is : (n : ℕ) → low_bytes 4 (n % 4294967296) ≡ low_bytes 4 n
+unfolding low_bytes
+count_is n =
+    let a : n % 4294967296 % 256 ≡ n % 256 = omega arith in
+    let b : n % 4294967296 / 256 % 256 ≡ n / 256 % 256 = omega arith in
+    let c : n % 4294967296 / 256 / 256 % 256 ≡ n / 256 / 256 % 256 = omega arith in
+    let d : n % 4294967296 / 256 / 256 / 256 % 256 ≡ n / 256 / 256 / 256 % 256 = omega arith in
+    λ i. a i ∷ b i ∷ c i ∷ d i ∷ []

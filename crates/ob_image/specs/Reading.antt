@@ -29,7 +29,7 @@ chained next (Err left) = Err left
 
 -- one after the other
 infixl 10 ◌>>=◌
-unfoldable pub ◌>>=◌ : {A B : Type 0} → Reader A → (A → Reader B) → Reader B
+abbrev pub ◌>>=◌ : {A B : Type 0} → Reader A → (A → Reader B) → Reader B
 read >>= next = λ bytes. chained next (read bytes)
 
 -- one byte that passes a test

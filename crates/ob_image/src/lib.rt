@@ -4,7 +4,10 @@
 pub use faults::ImageFault;
 
 mod faults;
+mod fields;
 mod instructions;
+mod given;
 mod layout;
 mod numbers;
-mod writing;
+mod parts;
+mod rows;

@@ -1,17 +1,12 @@
-ghost use Rattle.std.specs.Prelude.{◌≡◌, ◌++◌, ◌<◌, ◌^◌, OnOk, IfOk, length};
-ghost use Rattle.std.specs.List.{flat_map};
+ghost use Rattle.std.specs.Prelude.{◌≡◌, ◌++◌, OnOk};
 ghost use Rattle.ob_words.specs.Fields.{low_bytes};
-ghost use Rattle.ob_image.specs.Layout.{spell_fields, spell_instruction};
-ghost use Rattle.ob_image.specs.Spelling.{spell_static, spell_pointer, spell_local, spell_function, spell_rows, spell_image};
+ghost use Rattle.ob_image.specs.Layout.{spell_fields};
 
-use crate::instructions::fields_of;
 use crate::layout::Fields;
 use ob_base::NoMemory;
-use ob_code::{FunctionRow, Image, Instr, LocalRow, PointerRow, StaticRow, Verified};
-use std::alloc::Global;
 
 #[tactic(auto, using(crate::proofs::Digits::byte_is))]
-fn put_byte(out: &mut Vec<u8>, n: u8) -> Result<(), NoMemory>
+pub(crate) fn put_byte(out: &mut Vec<u8>, n: u8) -> Result<(), NoMemory>
     ensures { OnOk result (out.new.items ≡ out.old.items ++ low_bytes 1 n) }
 {
     out.push(n)?;
@@ -27,7 +22,7 @@ fn put_zeros(out: &mut Vec<u8>) -> Result<(), NoMemory>
 }
 
 #[tactic(auto, using(crate::proofs::Digits::word_is))]
-fn put_word(out: &mut Vec<u8>, n: u32) -> Result<(), NoMemory>
+pub(crate) fn put_word(out: &mut Vec<u8>, n: u32) -> Result<(), NoMemory>
     ensures { OnOk result (out.new.items ≡ out.old.items ++ low_bytes 4 n) }
 {
     out.extend_from_slice(&n.to_le_bytes())?;
@@ -35,22 +30,22 @@ fn put_word(out: &mut Vec<u8>, n: u32) -> Result<(), NoMemory>
 }
 
 #[tactic(auto, using(crate::proofs::Digits::long_is))]
-fn put_long(out: &mut Vec<u8>, n: u64) -> Result<(), NoMemory>
+pub(crate) fn put_long(out: &mut Vec<u8>, n: u64) -> Result<(), NoMemory>
     ensures { OnOk result (out.new.items ≡ out.old.items ++ low_bytes 8 n) }
 {
     out.extend_from_slice(&n.to_le_bytes())?;
     Ok(())
 }
 
-fn put_count(out: &mut Vec<u8>, n: usize) -> Result<(), NoMemory>
-    requires { n < 2 ^ 32 }
+#[tactic(auto, using(crate::proofs::Digits::count_is))]
+pub(crate) fn put_count(out: &mut Vec<u8>, n: usize) -> Result<(), NoMemory>
     ensures { OnOk result (out.new.items ≡ out.old.items ++ low_bytes 4 n) }
 {
-    put_word(out, n as u32)
+    put_word(out, (n % (1 << 32)) as u32)
 }
 
 #[tactic(auto, unfolding(crate::specs::Layout::spell_fields))]
-fn put_fields(out: &mut Vec<u8>, f: Fields) -> Result<(), NoMemory>
+pub(crate) fn put_fields(out: &mut Vec<u8>, f: Fields) -> Result<(), NoMemory>
     ensures { OnOk result (out.new.items ≡ out.old.items ++ spell_fields f) }
 {
     put_byte(out, f.op)?;
@@ -62,16 +57,4 @@ fn put_fields(out: &mut Vec<u8>, f: Fields) -> Result<(), NoMemory>
     put_word(out, f.c)?;
     put_long(out, f.imm)?;
     Ok(())
-}
-
-trait Spelled {
-    ghost use Rattle.std.specs.Prelude.{List, ℕ};
-
-    ghost spelling: { Self → List ℕ };
-
-    ghost is_short: { Self → Type 0 };
-
-    fn put(&self, out: &mut Vec<u8>) -> Result<(), NoMemory>
-        requires { is_short self.now }
-        ensures { OnOk result (out.new.items ≡ out.old.items ++ spelling self.now) };
 }

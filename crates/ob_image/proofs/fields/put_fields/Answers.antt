@@ -1,6 +1,6 @@
 use Rattle.std.proofs.Common.{append_assoc}
 use Rattle.ob_image.specs.Layout.{spell_fields}
-use Rattle.ob_image.proofs.writing.put_fields.Goals as goal
+use Rattle.ob_image.proofs.fields.put_fields.Goals as goal
 
 pub returns : goal.returns
 unfolding spell_fields
