@@ -42,20 +42,20 @@ chained_low low (Ok x) = refl
 chained_low low (Err left) = refl
 
 pub number_none : (size limit : ℕ) (bytes : List ℕ) → (size ≡ 0 → ⊥) → length bytes < 1 → number size limit bytes ≡ Err 0
-unfolding number ◌>>=◌ one
+unfolding number one
 number_none zero limit bytes h short = absurd (h refl)
 number_none (suc size) limit [] h short = refl
 number_none (suc size) limit (b ∷ bytes) h short = absurd (omega arith)
 
 pub number_past : (size limit : ℕ) (bytes : List ℕ) → (size ≡ 0 → ⊥) → 1 ≤ length bytes → limit < get_or bytes 0 0 → number size limit bytes ≡ Err (length bytes)
-unfolding number ◌>>=◌ one
+unfolding number one
 number_past zero limit bytes h long past = absurd (h refl)
 number_past (suc size) limit [] h long past = absurd (omega arith)
 number_past (suc size) limit (low ∷ bytes) h long past = rw (lt-leb low limit past) refl
 
 pub number_more : (size limit : ℕ) (bytes : List ℕ) → (size ≡ 0 → ⊥) → 1 ≤ length bytes → get_or bytes 0 0 ≤ limit
     → number size limit bytes ≡ with_low (get_or bytes 0 0) (number (size - 1) ((limit - get_or bytes 0 0) / 256) (drop 1 bytes))
-unfolding number ◌>>=◌ one
+unfolding number one
 number_more zero limit bytes h long fits = absurd (h refl)
 number_more (suc size) limit [] h long fits = absurd (omega arith)
 number_more (suc size) limit (low ∷ bytes) h long fits =
@@ -79,20 +79,20 @@ chained_first first (Ok x) = refl
 chained_first first (Err left) = refl
 
 pub exactly_none : (text bytes : List ℕ) → 1 ≤ length text → length bytes < 1 → exactly text bytes ≡ Err 0
-unfolding exactly ◌>>=◌ one
+unfolding exactly one
 exactly_none [] bytes long short = absurd (omega arith)
 exactly_none (t ∷ text) [] long short = refl
 exactly_none (t ∷ text) (b ∷ bytes) long short = absurd (omega arith)
 
 pub exactly_wrong : (text bytes : List ℕ) → 1 ≤ length text → 1 ≤ length bytes → (get_or bytes 0 0 ≡ get_or text 0 0 → ⊥) → exactly text bytes ≡ Err (length bytes)
-unfolding exactly ◌>>=◌ one
+unfolding exactly one
 exactly_wrong [] bytes long some other = absurd (omega arith)
 exactly_wrong (t ∷ text) [] long some other = absurd (omega arith)
 exactly_wrong (t ∷ text) (b ∷ bytes) long some other = rw (ne_eqb b t other) refl
 
 exactly_more : (text bytes : List ℕ) → 1 ≤ length text → 1 ≤ length bytes → get_or bytes 0 0 ≡ get_or text 0 0
     → exactly text bytes ≡ with_first (get_or bytes 0 0) (exactly (drop 1 text) (drop 1 bytes))
-unfolding exactly ◌>>=◌ one
+unfolding exactly one
 exactly_more [] bytes long some same = absurd (omega arith)
 exactly_more (t ∷ text) [] long some same = absurd (omega arith)
 exactly_more (t ∷ text) (b ∷ bytes) long some same = rw (eq-eqb b t same) (chained_first b (exactly text bytes))

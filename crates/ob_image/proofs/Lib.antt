@@ -1,3 +1,6 @@
 mod Digits
+mod Forms
+mod Givens
 mod Loops
 mod Readers
+mod Spellings

@@ -21,11 +21,11 @@ regroup front x (Err left) = refl
 
 one_more : {A : Type 0} (read : Reader A) (n : ℕ) (bytes : List ℕ) (x : A) (after : List ℕ) → read bytes ≡ Ok (x, after)
     → rows read (suc n) bytes ≡ chained (λ others. gives (x ∷ others)) (rows read n after)
-unfolding rows ◌>>=◌
+unfolding rows
 one_more read n bytes x after e = ap (chained (λ first. rows read n >>= λ others. gives (first ∷ others))) e
 
 one_less : {A : Type 0} (read : Reader A) (n : ℕ) (bytes : List ℕ) (left : ℕ) → read bytes ≡ Err left → rows read (suc n) bytes ≡ Err left
-unfolding rows ◌>>=◌
+unfolding rows
 one_less read n bytes left e = ap (chained (λ first. rows read n >>= λ others. gives (first ∷ others))) e
 
 pub goes_on : {A : Type 0} (read : Reader A) (front : List A) (count i : ℕ) (bytes : List ℕ) (x : A) (after : List ℕ) (total : Result (List A × List ℕ) ℕ)

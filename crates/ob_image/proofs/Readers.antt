@@ -49,7 +49,7 @@ pub record IsReader {A : Type 0} (read : Reader A) : Type 0 where
 
 -- ---- results
 
-abbrev done : {A : Type 0} → A × List ℕ → Result (A × List ℕ) ℕ
+abbrev pub done : {A : Type 0} → A × List ℕ → Result (A × List ℕ) ℕ
 done x = Ok x
 
 abbrev failed : (A : Type 0) → ℕ → Result (A × List ℕ) ℕ
@@ -121,12 +121,10 @@ gives_reader x = record {
   stops = λ bytes left e. absurd cc;
 }
 
-chained_ok : {A B : Type 0} (read : Reader A) (next : A → Reader B) (bytes : List ℕ) (x : A) (rest : List ℕ) → read bytes ≡ Ok (x, rest) → (read >>= next) bytes ≡ next x rest
-unfolding ◌>>=◌
+pub chained_ok : {A B : Type 0} (read : Reader A) (next : A → Reader B) (bytes : List ℕ) (x : A) (rest : List ℕ) → read bytes ≡ Ok (x, rest) → (read >>= next) bytes ≡ next x rest
 chained_ok read next bytes x rest e = ap (chained next) e
 
-chained_err : {A B : Type 0} (read : Reader A) (next : A → Reader B) (bytes : List ℕ) (left : ℕ) → read bytes ≡ Err left → (read >>= next) bytes ≡ Err left
-unfolding ◌>>=◌
+pub chained_err : {A B : Type 0} (read : Reader A) (next : A → Reader B) (bytes : List ℕ) (left : ℕ) → read bytes ≡ Err left → (read >>= next) bytes ≡ Err left
 chained_err read next bytes left e = ap (chained next) e
 
 then_takes : {A B : Type 0} (read : Reader A) (next : A → Reader B) (bytes : List ℕ) (x : A) (middle : List ℕ) (y : B) (rest : List ℕ)
@@ -208,11 +206,11 @@ pub record HasByte (test : ℕ → Bool) : Type 0 where
   pub fits : byte < 256
   pub passes : test byte ≡ true
 
-one_passes : (test : ℕ → Bool) (b : ℕ) (bytes : List ℕ) → test b ≡ true → one test (b ∷ bytes) ≡ Ok (b, bytes)
+pub one_passes : (test : ℕ → Bool) (b : ℕ) (bytes : List ℕ) → test b ≡ true → one test (b ∷ bytes) ≡ Ok (b, bytes)
 unfolding one
 one_passes test b bytes e = ap (λ (p : Bool). one_if p b bytes) e
 
-one_refuses : (test : ℕ → Bool) (b : ℕ) (bytes : List ℕ) → test b ≡ false → one test (b ∷ bytes) ≡ Err (suc (length bytes))
+pub one_refuses : (test : ℕ → Bool) (b : ℕ) (bytes : List ℕ) → test b ≡ false → one test (b ∷ bytes) ≡ Err (suc (length bytes))
 unfolding one
 one_refuses test b bytes e = ap (λ (p : Bool). one_if p b bytes) e
 

@@ -2,6 +2,7 @@
 #![tactic(auto)]
 
 pub use faults::ImageFault;
+pub use writing::write_image;
 
 mod faults;
 mod fields;
@@ -11,3 +12,4 @@ mod layout;
 mod numbers;
 mod parts;
 mod rows;
+mod writing;
