@@ -3,6 +3,7 @@ use Rattle.std.proofs.Common.{◌≡◌, ℕ, zero, suc, ◌+◌, ◌-◌, ◌^�
 use Rattle.std.specs.Int.{w64, cast_signed, cast_unsigned}
 use Rattle.std.proofs.lemmas.Bool.{cases_lt}
 use Rattle.std.proofs.lemmas.Int.{to_z-of_z, of_z-to_z}
+use Rattle.std.proofs.Math.Facts.{sfits_to_z}
 use Rattle.ob_words.specs.declared.types.IntType.{IntType}
 use Rattle.ob_words.specs.declared.types.IntType.TheVariants.{Char, SChar, UChar, Short, UShort, Int, UInt, Long, ULong, LLong, ULLong}
 use Rattle.ob_words.specs.declared.types.BinOp.{BinOp}
@@ -264,3 +265,252 @@ back op ge le =
 
 pub fields_back : (f : Fields) → AreFields f → fields_of (instruction f) ≡ f
 fields_back f are = back f.op are.first are.last f.kind f.line f.a f.b f.c f.imm are.kind are.line are.a are.b are.c are.imm
+
+-- an instruction that fields stand for has a number of eight bytes
+abbrev IsFit : ℕ → Type 0
+IsFit op = (kind line a b c imm : ℕ) → imm < 2 ^ 64 → HasNumber (instruction (fields op kind line a b c imm))
+
+fit_1 : IsFit 1
+unfolding instruction instructions
+fit_1 kind line a b c imm h = tt
+
+fit_2 : IsFit 2
+unfolding instruction instructions
+fit_2 kind line a b c imm h = sfits_to_z {w = w64} {n = imm} h
+
+fit_3 : IsFit 3
+unfolding instruction instructions
+fit_3 kind line a b c imm h = tt
+
+fit_4 : IsFit 4
+unfolding instruction instructions
+fit_4 kind line a b c imm h = tt
+
+fit_5 : IsFit 5
+unfolding instruction instructions
+fit_5 kind line a b c imm h = tt
+
+fit_6 : IsFit 6
+unfolding instruction instructions
+fit_6 kind line a b c imm h = tt
+
+fit_7 : IsFit 7
+unfolding instruction instructions
+fit_7 kind line a b c imm h = sfits_to_z {w = w64} {n = imm} h
+
+fit_8 : IsFit 8
+unfolding instruction instructions
+fit_8 kind line a b c imm h = sfits_to_z {w = w64} {n = imm} h
+
+fit_9 : IsFit 9
+unfolding instruction instructions
+fit_9 kind line a b c imm h = sfits_to_z {w = w64} {n = imm} h
+
+fit_10 : IsFit 10
+unfolding instruction instructions
+fit_10 kind line a b c imm h = sfits_to_z {w = w64} {n = imm} h
+
+fit_11 : IsFit 11
+unfolding instruction instructions
+fit_11 kind line a b c imm h = tt
+
+fit_12 : IsFit 12
+unfolding instruction instructions
+fit_12 kind line a b c imm h = sfits_to_z {w = w64} {n = imm} h
+
+fit_13 : IsFit 13
+unfolding instruction instructions
+fit_13 kind line a b c imm h = sfits_to_z {w = w64} {n = imm} h
+
+fit_14 : IsFit 14
+unfolding instruction instructions
+fit_14 kind line a b c imm h = sfits_to_z {w = w64} {n = imm} h
+
+fit_15 : IsFit 15
+unfolding instruction instructions
+fit_15 kind line a b c imm h = tt
+
+fit_16 : IsFit 16
+unfolding instruction instructions
+fit_16 kind line a b c imm h = tt
+
+fit_17 : IsFit 17
+unfolding instruction instructions
+fit_17 kind line a b c imm h = sfits_to_z {w = w64} {n = imm} h
+
+fit_18 : IsFit 18
+unfolding instruction instructions
+fit_18 kind line a b c imm h = sfits_to_z {w = w64} {n = imm} h
+
+fit_19 : IsFit 19
+unfolding instruction instructions
+fit_19 kind line a b c imm h = tt
+
+fit_20 : IsFit 20
+unfolding instruction instructions
+fit_20 kind line a b c imm h = tt
+
+fit_21 : IsFit 21
+unfolding instruction instructions
+fit_21 kind line a b c imm h = tt
+
+fit_22 : IsFit 22
+unfolding instruction instructions
+fit_22 kind line a b c imm h = sfits_to_z {w = w64} {n = imm} h
+
+fit_23 : IsFit 23
+unfolding instruction instructions
+fit_23 kind line a b c imm h = tt
+
+fit_24 : IsFit 24
+unfolding instruction instructions
+fit_24 kind line a b c imm h = tt
+
+fit_25 : IsFit 25
+unfolding instruction instructions
+fit_25 kind line a b c imm h = tt
+
+fit_26 : IsFit 26
+unfolding instruction instructions
+fit_26 kind line a b c imm h = tt
+
+fit_27 : IsFit 27
+unfolding instruction instructions
+fit_27 kind line a b c imm h = tt
+
+fit_28 : IsFit 28
+unfolding instruction instructions
+fit_28 kind line a b c imm h = tt
+
+fit : (op : ℕ) → 1 ≤ op → op ≤ 28 → IsFit op
+fit op ge le =
+    up IsFit 1 op ge fit_1 (λ h2. up IsFit 2 op h2 fit_2 (λ h3. up IsFit 3 op h3 fit_3 (λ h4. up IsFit 4 op h4 fit_4 (λ h5. up IsFit 5 op h5 fit_5 (λ h6. up IsFit 6 op h6 fit_6 (λ h7. up IsFit 7 op h7 fit_7 (λ h8. up IsFit 8 op h8 fit_8 (λ h9. up IsFit 9 op h9 fit_9 (λ h10. up IsFit 10 op h10 fit_10 (λ h11. up IsFit 11 op h11 fit_11 (λ h12. up IsFit 12 op h12 fit_12 (λ h13. up IsFit 13 op h13 fit_13 (λ h14. up IsFit 14 op h14 fit_14 (λ h15. up IsFit 15 op h15 fit_15 (λ h16. up IsFit 16 op h16 fit_16 (λ h17. up IsFit 17 op h17 fit_17 (λ h18. up IsFit 18 op h18 fit_18 (λ h19. up IsFit 19 op h19 fit_19 (λ h20. up IsFit 20 op h20 fit_20 (λ h21. up IsFit 21 op h21 fit_21 (λ h22. up IsFit 22 op h22 fit_22 (λ h23. up IsFit 23 op h23 fit_23 (λ h24. up IsFit 24 op h24 fit_24 (λ h25. up IsFit 25 op h25 fit_25 (λ h26. up IsFit 26 op h26 fit_26 (λ h27. up IsFit 27 op h27 fit_27 (λ h28. up IsFit 28 op h28 fit_28 (λ h29. absurd (omega (arith, le, h29))))))))))))))))))))))))))))))
+
+-- the last field of a form is of eight bytes
+abbrev IsNarrow : ℕ → Type 0
+IsNarrow op =
+    ((limits_of op).kind < 256) × ((limits_of op).line < 4294967296) × ((limits_of op).a < 4294967296) × ((limits_of op).b < 4294967296)
+    × ((limits_of op).c < 4294967296) × ((limits_of op).imm < 18446744073709551616)
+
+narrow_1 : IsNarrow 1
+unfolding limits_of all_limits
+narrow_1 = (omega arith, omega arith, omega arith, omega arith, omega arith, omega arith)
+
+narrow_2 : IsNarrow 2
+unfolding limits_of all_limits
+narrow_2 = (omega arith, omega arith, omega arith, omega arith, omega arith, omega arith)
+
+narrow_3 : IsNarrow 3
+unfolding limits_of all_limits
+narrow_3 = (omega arith, omega arith, omega arith, omega arith, omega arith, omega arith)
+
+narrow_4 : IsNarrow 4
+unfolding limits_of all_limits
+narrow_4 = (omega arith, omega arith, omega arith, omega arith, omega arith, omega arith)
+
+narrow_5 : IsNarrow 5
+unfolding limits_of all_limits
+narrow_5 = (omega arith, omega arith, omega arith, omega arith, omega arith, omega arith)
+
+narrow_6 : IsNarrow 6
+unfolding limits_of all_limits
+narrow_6 = (omega arith, omega arith, omega arith, omega arith, omega arith, omega arith)
+
+narrow_7 : IsNarrow 7
+unfolding limits_of all_limits
+narrow_7 = (omega arith, omega arith, omega arith, omega arith, omega arith, omega arith)
+
+narrow_8 : IsNarrow 8
+unfolding limits_of all_limits
+narrow_8 = (omega arith, omega arith, omega arith, omega arith, omega arith, omega arith)
+
+narrow_9 : IsNarrow 9
+unfolding limits_of all_limits
+narrow_9 = (omega arith, omega arith, omega arith, omega arith, omega arith, omega arith)
+
+narrow_10 : IsNarrow 10
+unfolding limits_of all_limits
+narrow_10 = (omega arith, omega arith, omega arith, omega arith, omega arith, omega arith)
+
+narrow_11 : IsNarrow 11
+unfolding limits_of all_limits
+narrow_11 = (omega arith, omega arith, omega arith, omega arith, omega arith, omega arith)
+
+narrow_12 : IsNarrow 12
+unfolding limits_of all_limits
+narrow_12 = (omega arith, omega arith, omega arith, omega arith, omega arith, omega arith)
+
+narrow_13 : IsNarrow 13
+unfolding limits_of all_limits
+narrow_13 = (omega arith, omega arith, omega arith, omega arith, omega arith, omega arith)
+
+narrow_14 : IsNarrow 14
+unfolding limits_of all_limits
+narrow_14 = (omega arith, omega arith, omega arith, omega arith, omega arith, omega arith)
+
+narrow_15 : IsNarrow 15
+unfolding limits_of all_limits
+narrow_15 = (omega arith, omega arith, omega arith, omega arith, omega arith, omega arith)
+
+narrow_16 : IsNarrow 16
+unfolding limits_of all_limits
+narrow_16 = (omega arith, omega arith, omega arith, omega arith, omega arith, omega arith)
+
+narrow_17 : IsNarrow 17
+unfolding limits_of all_limits
+narrow_17 = (omega arith, omega arith, omega arith, omega arith, omega arith, omega arith)
+
+narrow_18 : IsNarrow 18
+unfolding limits_of all_limits
+narrow_18 = (omega arith, omega arith, omega arith, omega arith, omega arith, omega arith)
+
+narrow_19 : IsNarrow 19
+unfolding limits_of all_limits
+narrow_19 = (omega arith, omega arith, omega arith, omega arith, omega arith, omega arith)
+
+narrow_20 : IsNarrow 20
+unfolding limits_of all_limits
+narrow_20 = (omega arith, omega arith, omega arith, omega arith, omega arith, omega arith)
+
+narrow_21 : IsNarrow 21
+unfolding limits_of all_limits
+narrow_21 = (omega arith, omega arith, omega arith, omega arith, omega arith, omega arith)
+
+narrow_22 : IsNarrow 22
+unfolding limits_of all_limits
+narrow_22 = (omega arith, omega arith, omega arith, omega arith, omega arith, omega arith)
+
+narrow_23 : IsNarrow 23
+unfolding limits_of all_limits
+narrow_23 = (omega arith, omega arith, omega arith, omega arith, omega arith, omega arith)
+
+narrow_24 : IsNarrow 24
+unfolding limits_of all_limits
+narrow_24 = (omega arith, omega arith, omega arith, omega arith, omega arith, omega arith)
+
+narrow_25 : IsNarrow 25
+unfolding limits_of all_limits
+narrow_25 = (omega arith, omega arith, omega arith, omega arith, omega arith, omega arith)
+
+narrow_26 : IsNarrow 26
+unfolding limits_of all_limits
+narrow_26 = (omega arith, omega arith, omega arith, omega arith, omega arith, omega arith)
+
+narrow_27 : IsNarrow 27
+unfolding limits_of all_limits
+narrow_27 = (omega arith, omega arith, omega arith, omega arith, omega arith, omega arith)
+
+narrow_28 : IsNarrow 28
+unfolding limits_of all_limits
+narrow_28 = (omega arith, omega arith, omega arith, omega arith, omega arith, omega arith)
+
+pub narrow : (op : ℕ) → 1 ≤ op → op ≤ 28 → IsNarrow op
+narrow op ge le =
+    up IsNarrow 1 op ge narrow_1 (λ h2. up IsNarrow 2 op h2 narrow_2 (λ h3. up IsNarrow 3 op h3 narrow_3 (λ h4. up IsNarrow 4 op h4 narrow_4 (λ h5. up IsNarrow 5 op h5 narrow_5 (λ h6. up IsNarrow 6 op h6 narrow_6 (λ h7. up IsNarrow 7 op h7 narrow_7 (λ h8. up IsNarrow 8 op h8 narrow_8 (λ h9. up IsNarrow 9 op h9 narrow_9 (λ h10. up IsNarrow 10 op h10 narrow_10 (λ h11. up IsNarrow 11 op h11 narrow_11 (λ h12. up IsNarrow 12 op h12 narrow_12 (λ h13. up IsNarrow 13 op h13 narrow_13 (λ h14. up IsNarrow 14 op h14 narrow_14 (λ h15. up IsNarrow 15 op h15 narrow_15 (λ h16. up IsNarrow 16 op h16 narrow_16 (λ h17. up IsNarrow 17 op h17 narrow_17 (λ h18. up IsNarrow 18 op h18 narrow_18 (λ h19. up IsNarrow 19 op h19 narrow_19 (λ h20. up IsNarrow 20 op h20 narrow_20 (λ h21. up IsNarrow 21 op h21 narrow_21 (λ h22. up IsNarrow 22 op h22 narrow_22 (λ h23. up IsNarrow 23 op h23 narrow_23 (λ h24. up IsNarrow 24 op h24 narrow_24 (λ h25. up IsNarrow 25 op h25 narrow_25 (λ h26. up IsNarrow 26 op h26 narrow_26 (λ h27. up IsNarrow 27 op h27 narrow_27 (λ h28. up IsNarrow 28 op h28 narrow_28 (λ h29. absurd (omega (arith, le, h29))))))))))))))))))))))))))))))
+
+pub fields_are : (f : Fields) → AreFields f → IsInstruction (instruction f)
+fields_are f are =
+    record {
+      fields = subst AreFields (sym (fields_back f are)) are;
+      number = fit f.op are.first are.last f.kind f.line f.a f.b f.c f.imm (omega (arith, are.imm, (narrow f.op are.first are.last).5));
+    }

@@ -3,4 +3,5 @@ mod Forms
 mod Givens
 mod Loops
 mod Readers
+mod RowLaws
 mod Spellings

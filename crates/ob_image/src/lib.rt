@@ -2,6 +2,7 @@
 #![tactic(auto)]
 
 pub use faults::ImageFault;
+pub use reading::read_image;
 pub use writing::write_image;
 
 mod faults;
@@ -11,5 +12,6 @@ mod given;
 mod layout;
 mod numbers;
 mod parts;
+mod reading;
 mod rows;
 mod writing;
