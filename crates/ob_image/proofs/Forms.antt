@@ -1,5 +1,5 @@
 -- An instruction has its fields back, and fields of a form have their instruction.
-use Rattle.std.proofs.Common.{◌≡◌, ℕ, zero, suc, ◌+◌, ◌-◌, ◌^◌, ◌<◌, ◌≤◌, List, [], ◌∷◌, ◌++◌, refl, sym, ap, subst, ◌∙◌, arith, FitsSigned, inl, inr}
+use Rattle.std.proofs.Common.{◌≡◌, ℕ, zero, suc, ◌+◌, ◌-◌, ◌^◌, ◌<◌, ◌≤◌, List, [], ◌∷◌, ◌++◌, refl, sym, ap, subst, ◌∙◌, arith, FitsSigned, Fits, rules, inl, inr}
 use Rattle.std.specs.Int.{w64, cast_signed, cast_unsigned}
 use Rattle.std.proofs.lemmas.Bool.{cases_lt}
 use Rattle.std.proofs.lemmas.Int.{to_z-of_z, of_z-to_z}
@@ -267,6 +267,9 @@ pub fields_back : (f : Fields) → AreFields f → fields_of (instruction f) ≡
 fields_back f are = back f.op are.first are.last f.kind f.line f.a f.b f.c f.imm are.kind are.line are.a are.b are.c are.imm
 
 -- an instruction that fields stand for has a number of eight bytes
+wide : (n : ℕ) → n < 2 ^ 64 → Fits w64 n
+wide n h = search (rules, h)
+
 abbrev IsFit : ℕ → Type 0
 IsFit op = (kind line a b c imm : ℕ) → imm < 2 ^ 64 → HasNumber (instruction (fields op kind line a b c imm))
 
@@ -276,7 +279,7 @@ fit_1 kind line a b c imm h = tt
 
 fit_2 : IsFit 2
 unfolding instruction instructions
-fit_2 kind line a b c imm h = sfits_to_z {w = w64} {n = imm} h
+fit_2 kind line a b c imm h = sfits_to_z {w = w64} {n = imm} (wide imm h)
 
 fit_3 : IsFit 3
 unfolding instruction instructions
@@ -296,19 +299,19 @@ fit_6 kind line a b c imm h = tt
 
 fit_7 : IsFit 7
 unfolding instruction instructions
-fit_7 kind line a b c imm h = sfits_to_z {w = w64} {n = imm} h
+fit_7 kind line a b c imm h = sfits_to_z {w = w64} {n = imm} (wide imm h)
 
 fit_8 : IsFit 8
 unfolding instruction instructions
-fit_8 kind line a b c imm h = sfits_to_z {w = w64} {n = imm} h
+fit_8 kind line a b c imm h = sfits_to_z {w = w64} {n = imm} (wide imm h)
 
 fit_9 : IsFit 9
 unfolding instruction instructions
-fit_9 kind line a b c imm h = sfits_to_z {w = w64} {n = imm} h
+fit_9 kind line a b c imm h = sfits_to_z {w = w64} {n = imm} (wide imm h)
 
 fit_10 : IsFit 10
 unfolding instruction instructions
-fit_10 kind line a b c imm h = sfits_to_z {w = w64} {n = imm} h
+fit_10 kind line a b c imm h = sfits_to_z {w = w64} {n = imm} (wide imm h)
 
 fit_11 : IsFit 11
 unfolding instruction instructions
@@ -316,15 +319,15 @@ fit_11 kind line a b c imm h = tt
 
 fit_12 : IsFit 12
 unfolding instruction instructions
-fit_12 kind line a b c imm h = sfits_to_z {w = w64} {n = imm} h
+fit_12 kind line a b c imm h = sfits_to_z {w = w64} {n = imm} (wide imm h)
 
 fit_13 : IsFit 13
 unfolding instruction instructions
-fit_13 kind line a b c imm h = sfits_to_z {w = w64} {n = imm} h
+fit_13 kind line a b c imm h = sfits_to_z {w = w64} {n = imm} (wide imm h)
 
 fit_14 : IsFit 14
 unfolding instruction instructions
-fit_14 kind line a b c imm h = sfits_to_z {w = w64} {n = imm} h
+fit_14 kind line a b c imm h = sfits_to_z {w = w64} {n = imm} (wide imm h)
 
 fit_15 : IsFit 15
 unfolding instruction instructions
@@ -336,11 +339,11 @@ fit_16 kind line a b c imm h = tt
 
 fit_17 : IsFit 17
 unfolding instruction instructions
-fit_17 kind line a b c imm h = sfits_to_z {w = w64} {n = imm} h
+fit_17 kind line a b c imm h = sfits_to_z {w = w64} {n = imm} (wide imm h)
 
 fit_18 : IsFit 18
 unfolding instruction instructions
-fit_18 kind line a b c imm h = sfits_to_z {w = w64} {n = imm} h
+fit_18 kind line a b c imm h = sfits_to_z {w = w64} {n = imm} (wide imm h)
 
 fit_19 : IsFit 19
 unfolding instruction instructions
@@ -356,7 +359,7 @@ fit_21 kind line a b c imm h = tt
 
 fit_22 : IsFit 22
 unfolding instruction instructions
-fit_22 kind line a b c imm h = sfits_to_z {w = w64} {n = imm} h
+fit_22 kind line a b c imm h = sfits_to_z {w = w64} {n = imm} (wide imm h)
 
 fit_23 : IsFit 23
 unfolding instruction instructions

@@ -5,3 +5,4 @@ mod Loops
 mod Readers
 mod RowLaws
 mod Spellings
+mod Wholes

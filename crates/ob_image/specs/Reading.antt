@@ -118,17 +118,22 @@ function_row = do
 unfoldable pub operation : Reader ℕ
 operation = one (λ b. nat_le 1 b && nat_le b operations)
 
-unfoldable pub fields_row : Reader Fields
-fields_row = do
-  op ← operation
-  kind ← number 1 (limits_of op).kind
-  zeros ← number 2 0
+-- the fields behind the two bytes of 0
+unfoldable pub operands_row : ℕ → ℕ → Reader Fields
+operands_row op kind = do
   line ← number 4 (limits_of op).line
   a ← number 4 (limits_of op).a
   b ← number 4 (limits_of op).b
   c ← number 4 (limits_of op).c
   imm ← number 8 (limits_of op).imm
   gives (fields op kind line a b c imm)
+
+unfoldable pub fields_row : Reader Fields
+fields_row = do
+  op ← operation
+  kind ← number 1 (limits_of op).kind
+  zeros ← number 2 0
+  operands_row op kind
 
 unfoldable pub instruction_row : Reader Instr
 instruction_row = do

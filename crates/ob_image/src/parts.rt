@@ -137,7 +137,7 @@ impl Row for FunctionRow {
     }
 }
 
-#[tactic(auto, unfolding(crate::specs::Reading::fields_row, crate::specs::Reading::gives))]
+#[tactic(auto, unfolding(crate::specs::Reading::fields_row, crate::specs::Reading::operands_row, crate::specs::Reading::gives))]
 fn fields(bytes: &[u8]) -> Result<(Fields, &[u8]), Stop>
     ensures value { Gives (λ x. (x.0, x.1.now)) result (fields_row bytes.now) }
     ensures form { IfOk result (λ x. AreFields x.0) }
