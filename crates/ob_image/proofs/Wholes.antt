@@ -2,7 +2,7 @@
 use Rattle.std.proofs.Common.{◌≡◌, ℕ, zero, suc, ◌+◌, ◌-◌, ◌^◌, ◌<◌, ◌≤◌, Bool, true, false, List, [], ◌∷◌, ◌++◌, length, take, drop, Result, Ok, Err, refl, sym, ap, subst, ◌∙◌, append_assoc, arith}
 use Rattle.std.specs.Prelude.{◌==◌}
 use Rattle.std.proofs.lemmas.List.{append-nil, take_at, length-append, take-append-drop}
-use Rattle.std.proofs.lemmas.Bool.{cases_lt}
+use Rattle.std.proofs.lemmas.Bool.{cases_lt, ne_eqb}
 use Rattle.std.proofs.Common.{inl, inr, get_or, Fits, w8}
 use Rattle.ob_words.specs.Fields.{low_bytes}
 use Rattle.ob_code.specs.declared.image.Image.{Image}
@@ -132,7 +132,9 @@ trailing bytes x b after fits e =
     let place : length (spell_image x) ≡ length bytes - suc (length after) = omega (arith, ap length s.1, length-append (spell_image x) (b ∷ after)) in
     let begun : IsBegun (spell_image x) = (x, [], (s.0, append-nil (spell_image x))) in
     let first = wrong_at (spell_image x) (b ∷ after) begun
-      (λ wrong behind other same y read. let g = sym (image_again x (wrong ∷ other) s.0) ∙ read in absurd cc)
+      (λ wrong behind other same y read.
+        let g = ok_is (x, wrong ∷ other) (y, []) (sym (image_again x (wrong ∷ other) s.0) ∙ read) in
+        let q : wrong ∷ other ≡ [] = ap (λ (p : Image × List ℕ). p.1) g in absurd cc)
       (λ none y t. absurd cc) in
     subst (λ (n : ℕ). IsFirstWrong bytes n) place (subst (λ (l : List ℕ). IsFirstWrong l (length (spell_image x))) (sym s.1) first)
 
@@ -159,6 +161,9 @@ pub data Judged (bytes : List ℕ) (read : Result Image ℕ) : Type 0 where
   whole : (x : Image) (is : read ≡ Ok x) (spells : Spells bytes x) → Judged bytes read
   wrong : (left : ℕ) (is : read ≡ Err left) (first : IsFirstWrong bytes (length bytes - left)) (most : left ≤ length bytes) → Judged bytes read
 
+not_ended : (x : Image) (b : ℕ) (after : List ℕ) → ended (done (x, b ∷ after)) ≡ Err (suc (length after))
+not_ended x b after = rw (ne_eqb (suc (length after)) 0 (omega arith)) refl
+
 pub judged : (bytes : List ℕ) → IsBytes bytes → Judged bytes (image_of bytes)
 unfolding image_of
 judged bytes fits =
@@ -170,7 +175,7 @@ judged bytes fits =
   at_rest {x = x} [] e = whole x (ap ended e) (whole_spelled bytes x fits e)
   at_rest {x = x} (b ∷ after) e =
       let s = image_sound bytes x (b ∷ after) fits e in
-      wrong (suc (length after)) (ap ended e) (trailing bytes x b after fits e) (omega (arith, ap length s.1, length-append (spell_image x) (b ∷ after)))
+      wrong (suc (length after)) (ap ended e ∙ not_ended x b after) (trailing bytes x b after fits e) (omega (arith, ap length s.1, length-append (spell_image x) (b ∷ after)))
 
 ok_same : (x y : Image) → told x ≡ told y → x ≡ y
 ok_same x y e = cc

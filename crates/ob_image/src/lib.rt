@@ -2,6 +2,7 @@
 #![tactic(auto)]
 
 pub use faults::ImageFault;
+pub use laws::{law_no_prefix, law_reads_back};
 pub use reading::read_image;
 pub use writing::write_image;
 
@@ -9,6 +10,7 @@ mod faults;
 mod fields;
 mod instructions;
 mod given;
+mod laws;
 mod layout;
 mod numbers;
 mod parts;
