@@ -58,7 +58,7 @@ given_all (b ∷ c ∷ text) rest well =
     let inner : suc (length text) - 1 ≡ length text = omega arith in
     given_more (length text) b (c ∷ (text ++ rest))
     ∙ ap (with_first b)
-      (given_all (c ∷ text) rest (λ some ends. well (omega arith) (ap (λ (k : ℕ). get_or (b ∷ c ∷ text) k 0) place ∙ sym (ap (λ (k : ℕ). get_or (c ∷ text) k 0) inner) ∙ ends)))
+    (given_all (c ∷ text) rest (λ some ends. well (omega arith) (ap (λ (k : ℕ). get_or (b ∷ c ∷ text) k 0) place ∙ sym (ap (λ (k : ℕ). get_or (c ∷ text) k 0) inner) ∙ ends)))
 
 -- the same of the bytes that the code splits
 pub split_zero : (n : ℕ) (bytes text rest : List ℕ) → text ≡ take n bytes → rest ≡ drop n bytes → n ≤ length bytes
@@ -68,8 +68,8 @@ split_zero n bytes text rest front back long some ends =
     let whole : text ++ rest ≡ bytes = rw (front, back) (take-append-drop n bytes) in
     let plus : suc (length rest) ≡ length rest + 1 = omega arith in
     ap (λ (k : ℕ). given k bytes) (sym len) ∙ ap (given (length text)) (sym whole) ∙ given_zero text rest some ends ∙ ap (λ (k : ℕ). failed k) plus where
-  failed : ℕ → Result (List ℕ × List ℕ) ℕ
-  failed k = Err k
+      failed : ℕ → Result (List ℕ × List ℕ) ℕ
+      failed k = Err k
 
 pub split_all : (n : ℕ) (bytes text rest : List ℕ) → text ≡ take n bytes → rest ≡ drop n bytes → n ≤ length bytes
     → (0 < length text → get_or text (length text - 1) 0 ≡ 0 → ⊥) → given n bytes ≡ Ok (text, rest)

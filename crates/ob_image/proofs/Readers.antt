@@ -85,18 +85,18 @@ pub whole : {A : Type 0} (read : Reader A) → IsReader read → Whole read
 whole read is =
     elim (answered (read [])) [
       | found x rest e ↦
-        let t = is.takes [] x rest e in
-        let none = no_append t.taken rest t.parts in
-        record { text = []; value = x; are_bytes = tt; whole = e ∙ ap (λ (r : List ℕ). done (x, r)) none.1 }
+          let t = is.takes [] x rest e in
+          let none = no_append t.taken rest t.parts in
+          record { text = []; value = x; are_bytes = tt; whole = e ∙ ap (λ (r : List ℕ). done (x, r)) none.1 }
       | stuck left e ↦
-        let s = is.stops [] left e in
-        let none = no_append s.seen s.rest s.parts in
-        record {
-          text = s.open_.next ∷ s.open_.more;
-          value = s.open_.value;
-          are_bytes = s.open_.are_bytes;
-          whole = subst (λ (seen : List ℕ). read (seen ++ s.open_.next ∷ s.open_.more) ≡ Ok (s.open_.value, [])) none.0 s.open_.whole;
-        }
+          let s = is.stops [] left e in
+          let none = no_append s.seen s.rest s.parts in
+          record {
+            text = s.open_.next ∷ s.open_.more;
+            value = s.open_.value;
+            are_bytes = s.open_.are_bytes;
+            whole = subst (λ (seen : List ℕ). read (seen ++ s.open_.next ∷ s.open_.more) ≡ Ok (s.open_.value, [])) none.0 s.open_.whole;
+          }
     ]
 
 -- what was read to its end is read too where more follows
@@ -112,12 +112,12 @@ pub gives_reader : {A : Type 0} (x : A) → IsReader (gives x)
 unfolding gives
 gives_reader x = record {
   takes = λ bytes y rest e.
-    let same = ok_is (x, bytes) (y, rest) e in
-    record {
-      taken = [];
-      parts = ap (λ (p : _ × List ℕ). p.1) same;
-      again = λ more. ap (λ (p : _ × List ℕ). done (p.0, more)) same;
-    };
+      let same = ok_is (x, bytes) (y, rest) e in
+      record {
+        taken = [];
+        parts = ap (λ (p : _ × List ℕ). p.1) same;
+        again = λ more. ap (λ (p : _ × List ℕ). done (p.0, more)) same;
+      };
   stops = λ bytes left e. absurd cc;
 }
 
@@ -133,8 +133,8 @@ then_takes read next bytes x middle y rest s t = record {
   taken = s.taken ++ t.taken;
   parts = s.parts ∙ ap (λ (m : List ℕ). s.taken ++ m) t.parts ∙ sym (append_assoc s.taken t.taken rest);
   again = λ more.
-    ap (λ (m : List ℕ). (read >>= next) m) (append_assoc s.taken t.taken more)
-    ∙ chained_ok read next (s.taken ++ (t.taken ++ more)) x (t.taken ++ more) (s.again (t.taken ++ more)) ∙ t.again more;
+      ap (λ (m : List ℕ). (read >>= next) m) (append_assoc s.taken t.taken more)
+      ∙ chained_ok read next (s.taken ++ (t.taken ++ more)) x (t.taken ++ more) (s.again (t.taken ++ more)) ∙ t.again more;
 }
 
 -- the first reader stops
@@ -154,9 +154,9 @@ then_stops read next bytes left is are s =
         value = w.value;
         are_bytes = IsBytes-append (o.next ∷ o.more) w.text o.are_bytes w.are_bytes;
         whole =
-          ap (λ (m : List ℕ). (read >>= next) m) (sym (append_assoc s.seen (o.next ∷ o.more) w.text))
-          ∙ chained_ok read next ((s.seen ++ o.next ∷ o.more) ++ w.text) o.value w.text (goes_on read is (s.seen ++ o.next ∷ o.more) o.value o.whole w.text)
-          ∙ w.whole;
+            ap (λ (m : List ℕ). (read >>= next) m) (sym (append_assoc s.seen (o.next ∷ o.more) w.text))
+            ∙ chained_ok read next ((s.seen ++ o.next ∷ o.more) ++ w.text) o.value w.text (goes_on read is (s.seen ++ o.next ∷ o.more) o.value o.whole w.text)
+            ∙ w.whole;
       };
       shut = λ wrong after e other. chained_err read next (s.seen ++ wrong ∷ other) (suc (length other)) (s.shut wrong after e other);
     }
@@ -166,8 +166,8 @@ behind_stops : {A B : Type 0} (read : Reader A) (next : A → Reader B) (bytes :
     → Takes read bytes x middle → Stops (next x) middle left → Stops (read >>= next) bytes left
 behind_stops read next bytes x middle left t s =
     let along : (more : List ℕ) → (read >>= next) ((t.taken ++ s.seen) ++ more) ≡ next x (s.seen ++ more) = λ more.
-        ap (λ (m : List ℕ). (read >>= next) m) (append_assoc t.taken s.seen more)
-        ∙ chained_ok read next (t.taken ++ (s.seen ++ more)) x (s.seen ++ more) (t.again (s.seen ++ more)) in
+    ap (λ (m : List ℕ). (read >>= next) m) (append_assoc t.taken s.seen more)
+    ∙ chained_ok read next (t.taken ++ (s.seen ++ more)) x (s.seen ++ more) (t.again (s.seen ++ more)) in
     record {
       seen = t.taken ++ s.seen;
       rest = s.rest;
@@ -186,17 +186,17 @@ behind_stops read next bytes x middle left t s =
 pub then_reader : {A B : Type 0} {read : Reader A} {next : A → Reader B} → IsReader read → ((x : A) → IsReader (next x)) → IsReader (read >>= next)
 then_reader {read = read} {next = next} is are = record {
   takes = λ bytes y rest e.
-    elim (answered (read bytes)) [
-      | found x middle f ↦ then_takes read next bytes x middle y rest (is.takes bytes x middle f) ((are x).takes middle y rest (sym (chained_ok read next bytes x middle f) ∙ e))
-      | stuck left f ↦ let g = sym (chained_err read next bytes left f) ∙ e in absurd cc
-    ];
+      elim (answered (read bytes)) [
+        | found x middle f ↦ then_takes read next bytes x middle y rest (is.takes bytes x middle f) ((are x).takes middle y rest (sym (chained_ok read next bytes x middle f) ∙ e))
+        | stuck left f ↦ let g = sym (chained_err read next bytes left f) ∙ e in absurd cc
+      ];
   stops = λ bytes left e.
-    elim (answered (read bytes)) [
-      | found x middle f ↦ behind_stops read next bytes x middle left (is.takes bytes x middle f) ((are x).stops middle left (sym (chained_ok read next bytes x middle f) ∙ e))
-      | stuck here f ↦
-        let same = err_is _ here left (sym (chained_err read next bytes here f) ∙ e) in
-        subst (Stops (read >>= next) bytes) same (then_stops read next bytes here is are (is.stops bytes here f))
-    ];
+      elim (answered (read bytes)) [
+        | found x middle f ↦ behind_stops read next bytes x middle left (is.takes bytes x middle f) ((are x).stops middle left (sym (chained_ok read next bytes x middle f) ∙ e))
+        | stuck here f ↦
+            let same = err_is _ here left (sym (chained_err read next bytes here f) ∙ e) in
+            subst (Stops (read >>= next) bytes) same (then_stops read next bytes here is are (is.stops bytes here f))
+      ];
 }
 
 -- ---- one byte
@@ -231,10 +231,10 @@ one_takes test [] x rest e = absurd cc
 one_takes test (b ∷ bytes) x rest e =
     elim (tested (test b)) [
       | yes t ↦
-        let same = ok_is (b, bytes) (x, rest) (sym (one_passes test b bytes t) ∙ e) in
-        let b-is : b ≡ x = ap (λ (p : ℕ × List ℕ). p.0) same in
-        let rest-is : bytes ≡ rest = ap (λ (p : ℕ × List ℕ). p.1) same in
-        record { taken = b ∷ []; parts = ap (λ (r : List ℕ). b ∷ r) rest-is; again = λ more. one_passes test b more t ∙ ap (λ (y : ℕ). done (y, more)) b-is }
+          let same = ok_is (b, bytes) (x, rest) (sym (one_passes test b bytes t) ∙ e) in
+          let b-is : b ≡ x = ap (λ (p : ℕ × List ℕ). p.0) same in
+          let rest-is : bytes ≡ rest = ap (λ (p : ℕ × List ℕ). p.1) same in
+          record { taken = b ∷ []; parts = ap (λ (r : List ℕ). b ∷ r) rest-is; again = λ more. one_passes test b more t ∙ ap (λ (y : ℕ). done (y, more)) b-is }
       | no t ↦ let g = sym (one_refuses test b bytes t) ∙ e in absurd cc
     ]
 
@@ -246,16 +246,16 @@ one_stops test h (b ∷ bytes) left e =
     elim (tested (test b)) [
       | yes t ↦ let g = sym (one_passes test b bytes t) ∙ e in absurd cc
       | no t ↦
-        record {
-          seen = [];
-          rest = b ∷ bytes;
-          parts = refl;
-          count = err_is ℕ (suc (length bytes)) left (sym (one_refuses test b bytes t) ∙ e);
-          open_ = one_completes test h;
-          shut = λ wrong after f other.
-            let same : b ≡ wrong = cc in
-            one_refuses test wrong other (subst (λ (w : ℕ). test w ≡ false) same t);
-        }
+          record {
+            seen = [];
+            rest = b ∷ bytes;
+            parts = refl;
+            count = err_is ℕ (suc (length bytes)) left (sym (one_refuses test b bytes t) ∙ e);
+            open_ = one_completes test h;
+            shut = λ wrong after f other.
+                let same : b ≡ wrong = cc in
+                one_refuses test wrong other (subst (λ (w : ℕ). test w ≡ false) same t);
+          }
     ]
 
 pub one_reader : {test : ℕ → Bool} → HasByte test → IsReader (one test)

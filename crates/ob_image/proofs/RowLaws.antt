@@ -47,7 +47,7 @@ one_sound test [] x rest fits e = absurd cc
 one_sound test (b ∷ bytes) x rest fits e =
     elim (tested (test b)) [
       | yes t ↦
-        subst (λ (p : ℕ × List ℕ). ((test p.0 ≡ true) × (p.0 < 256)) × (b ∷ bytes ≡ p.0 ∷ p.1)) (ok_is (b, bytes) (x, rest) (sym (one_passes test b bytes t) ∙ e)) ((t, fits.0), refl)
+          subst (λ (p : ℕ × List ℕ). ((test p.0 ≡ true) × (p.0 < 256)) × (b ∷ bytes ≡ p.0 ∷ p.1)) (ok_is (b, bytes) (x, rest) (sym (one_passes test b bytes t) ∙ e)) ((t, fits.0), refl)
       | no t ↦ let g = sym (one_refuses test b bytes t) ∙ e in absurd cc
     ]
 
@@ -71,13 +71,13 @@ operation_spelled : IsSpelled operation IsOperation (low_bytes 1)
 unfolding operation
 operation_spelled = record {
   sound = λ bytes x rest fits e.
-    let s = one_sound (λ b. nat_le 1 b && nat_le b operations) bytes x rest fits e in
-    let t = both (nat_le 1 x) (nat_le x operations) s.0.0 in
-    ((leb-true 1 x t.0, leb-true x operations t.1), s.1 ∙ ap (λ (l : List ℕ). l ++ rest) (byte_is x s.0.1));
+      let s = one_sound (λ b. nat_le 1 b && nat_le b operations) bytes x rest fits e in
+      let t = both (nat_le 1 x) (nat_le x operations) s.0.0 in
+      ((leb-true 1 x t.0, leb-true x operations t.1), s.1 ∙ ap (λ (l : List ℕ). l ++ rest) (byte_is x s.0.1));
   again = λ x rest is.
-    let small : x < 256 = omega (arith, is.1) in
-    ap (λ (l : List ℕ). one (λ b. nat_le 1 b && nat_le b operations) (l ++ rest)) (sym (byte_is x small))
-    ∙ one_passes (λ b. nat_le 1 b && nat_le b operations) x rest (both_are (nat_le 1 x) (nat_le x operations) (le-leb 1 x is.0) (le-leb x operations is.1));
+      let small : x < 256 = omega (arith, is.1) in
+      ap (λ (l : List ℕ). one (λ b. nat_le 1 b && nat_le b operations) (l ++ rest)) (sym (byte_is x small))
+      ∙ one_passes (λ b. nat_le 1 b && nat_le b operations) x rest (both_are (nat_le 1 x) (nat_le x operations) (le-leb 1 x is.0) (le-leb x operations is.1));
 }
 
 pub operation_reader : IsReader operation
@@ -94,16 +94,16 @@ exactly_spelled [] small = record {
 }
 exactly_spelled (t ∷ text) small = record {
   sound = λ bytes xs rest fits e.
-    let a = then_sound (one_spelled (λ c. c == t)) bytes xs rest fits e in
-    let b = then_sound (exactly_spelled text small.1) a.middle xs rest a.are_bytes a.goes in
-    let first : a.value ≡ t = eqb-true a.value t a.is.0 in
-    subst (λ (p : List ℕ × List ℕ). (p.0 ≡ t ∷ text) × (bytes ≡ p.0 ++ p.1)) (ok_is (a.value ∷ b.value, b.middle) (xs, rest) b.goes)
+      let a = then_sound (one_spelled (λ c. c == t)) bytes xs rest fits e in
+      let b = then_sound (exactly_spelled text small.1) a.middle xs rest a.are_bytes a.goes in
+      let first : a.value ≡ t = eqb-true a.value t a.is.0 in
+      subst (λ (p : List ℕ × List ℕ). (p.0 ≡ t ∷ text) × (bytes ≡ p.0 ++ p.1)) (ok_is (a.value ∷ b.value, b.middle) (xs, rest) b.goes)
       ((λ i. first i ∷ b.is i), a.parts ∙ ap (λ (l : List ℕ). a.value ∷ l) b.parts);
   again = λ xs rest is.
-    ap (λ (l : List ℕ). exactly (t ∷ text) (l ++ rest)) is
-    ∙ then_again (λ first. exactly text >>= λ others. gives (first ∷ others)) (one_spelled (λ c. c == t)) t (text ++ rest) (eq-eqb t t refl, small.0)
-    ∙ then_again (λ others. gives (t ∷ others)) (exactly_spelled text small.1) text rest refl
-    ∙ ap (λ (l : List ℕ). done (l, rest)) (sym is);
+      ap (λ (l : List ℕ). exactly (t ∷ text) (l ++ rest)) is
+      ∙ then_again (λ first. exactly text >>= λ others. gives (first ∷ others)) (one_spelled (λ c. c == t)) t (text ++ rest) (eq-eqb t t refl, small.0)
+      ∙ then_again (λ others. gives (t ∷ others)) (exactly_spelled text small.1) text rest refl
+      ∙ ap (λ (l : List ℕ). done (l, rest)) (sym is);
 }
 
 -- ---- given bytes
@@ -125,25 +125,25 @@ given_sound n bytes xs rest fits e =
     elim (cases_lt (length bytes) n) [
       | inl short ↦ let g = sym (given_short n bytes short) ∙ e in absurd cc
       | inr long ↦
-        let text = take n bytes in
-        let behind = drop n bytes in
-        let whole : text ++ behind ≡ bytes = take-append-drop n bytes in
-        let len : length text ≡ n = length-take-le n bytes long in
-        let split : given (length text) (text ++ behind) ≡ Ok (xs, rest) = ap (λ (k : ℕ). given k (text ++ behind)) len ∙ ap (given n) whole ∙ e in
-        elim (tested (eqb (get_or text (length text - 1) 0) 0)) [
-          | yes z ↦
-            elim (cases_lt 0 (length text)) [
-              | inl some ↦ let g = sym (given_zero text behind some (eqb-true _ 0 z)) ∙ split in absurd cc
-              | inr none ↦ made text behind xs rest bytes n len whole fits (λ some. absurd (omega arith)) split
-            ]
-          | no z ↦ made text behind xs rest bytes n len whole fits (λ some. eqb-false (get_or text (length text - 1) 0) 0 z) split
-        ]
+          let text = take n bytes in
+          let behind = drop n bytes in
+          let whole : text ++ behind ≡ bytes = take-append-drop n bytes in
+          let len : length text ≡ n = length-take-le n bytes long in
+          let split : given (length text) (text ++ behind) ≡ Ok (xs, rest) = ap (λ (k : ℕ). given k (text ++ behind)) len ∙ ap (given n) whole ∙ e in
+          elim (tested (eqb (get_or text (length text - 1) 0) 0)) [
+            | yes z ↦
+                elim (cases_lt 0 (length text)) [
+                  | inl some ↦ let g = sym (given_zero text behind some (eqb-true _ 0 z)) ∙ split in absurd cc
+                  | inr none ↦ made text behind xs rest bytes n len whole fits (λ some. absurd (omega arith)) split
+                ]
+            | no z ↦ made text behind xs rest bytes n len whole fits (λ some. eqb-false (get_or text (length text - 1) 0) 0 z) split
+          ]
     ] where
-  made : (text behind xs rest bytes : List ℕ) (n : ℕ) → length text ≡ n → text ++ behind ≡ bytes → IsBytes bytes → EndsNonzero text → given (length text) (text ++ behind) ≡ Ok (xs, rest)
-      → IsGiven n xs × (bytes ≡ xs ++ rest)
-  made text behind xs rest bytes n len whole fits well split =
-      subst (λ (p : List ℕ × List ℕ). IsGiven n p.0 × (bytes ≡ p.0 ++ p.1)) (ok_is (text, behind) (xs, rest) (sym (given_all text behind well) ∙ split))
-        (record { count = len; are_bytes = IsBytes-front text behind (subst IsBytes (sym whole) fits); last = well }, sym whole)
+      made : (text behind xs rest bytes : List ℕ) (n : ℕ) → length text ≡ n → text ++ behind ≡ bytes → IsBytes bytes → EndsNonzero text → given (length text) (text ++ behind) ≡ Ok (xs, rest)
+          → IsGiven n xs × (bytes ≡ xs ++ rest)
+      made text behind xs rest bytes n len whole fits well split =
+          subst (λ (p : List ℕ × List ℕ). IsGiven n p.0 × (bytes ≡ p.0 ++ p.1)) (ok_is (text, behind) (xs, rest) (sym (given_all text behind well) ∙ split))
+          (record { count = len; are_bytes = IsBytes-front text behind (subst IsBytes (sym whole) fits); last = well }, sym whole)
 
 given_spelled : (n : ℕ) → IsSpelled (given n) (IsGiven n) (λ xs. xs)
 given_spelled n = record {
@@ -166,21 +166,21 @@ pub static_spelled : IsSpelled static_row IsStatic spell_static
 unfolding static_row spell_static gives
 static_spelled = record {
   sound = λ bytes x rest fits e.
-    let a = then_sound long_spelled bytes x rest fits e in
-    let b = then_sound count_spelled a.middle x rest a.are_bytes a.goes in
-    let c = then_sound (given_spelled b.value) b.middle x rest b.are_bytes b.goes in
-    let row : StaticRow = record { size = a.value; given = c.value } in
-    let text : bytes ≡ spell_static row ++ c.middle =
+      let a = then_sound long_spelled bytes x rest fits e in
+      let b = then_sound count_spelled a.middle x rest a.are_bytes a.goes in
+      let c = then_sound (given_spelled b.value) b.middle x rest b.are_bytes b.goes in
+      let row : StaticRow = record { size = a.value; given = c.value } in
+      let text : bytes ≡ spell_static row ++ c.middle =
       a.parts ∙ along (low_bytes 8 a.value) _ _ (b.parts ∙ along (low_bytes 8 b.value) _ _ c.parts)
       ∙ ap (λ (n : ℕ). low_bytes 8 a.value ++ (low_bytes 8 n ++ (c.value ++ c.middle))) (sym c.is.count) ∙ sym (simp append_assoc) in
-    subst (λ (p : StaticRow × List ℕ). IsStatic p.0 × (bytes ≡ spell_static p.0 ++ p.1)) (ok_is (row, c.middle) (x, rest) c.goes)
+      subst (λ (p : StaticRow × List ℕ). IsStatic p.0 × (bytes ≡ spell_static p.0 ++ p.1)) (ok_is (row, c.middle) (x, rest) c.goes)
       (record { size = a.is; most = omega (arith, b.is, c.is.count); bytes = c.is.are_bytes; last = c.is.last }, text);
   again = λ x rest is.
-    let regroup : spell_static x ++ rest ≡ low_bytes 8 x.size ++ (low_bytes 8 (length x.given) ++ (x.given ++ rest)) = simp append_assoc in
-    ap static_row regroup
-    ∙ then_again _ long_spelled x.size _ is.size
-    ∙ then_again _ count_spelled (length x.given) _ is.most
-    ∙ then_again _ (given_spelled (length x.given)) x.given rest (record { count = refl; are_bytes = is.bytes; last = is.last });
+      let regroup : spell_static x ++ rest ≡ low_bytes 8 x.size ++ (low_bytes 8 (length x.given) ++ (x.given ++ rest)) = simp append_assoc in
+      ap static_row regroup
+      ∙ then_again _ long_spelled x.size _ is.size
+      ∙ then_again _ count_spelled (length x.given) _ is.most
+      ∙ then_again _ (given_spelled (length x.given)) x.given rest (record { count = refl; are_bytes = is.bytes; last = is.last });
 }
 
 pub pointer_reader : IsReader pointer_row
@@ -194,22 +194,22 @@ pub pointer_spelled : IsSpelled pointer_row IsPointer spell_pointer
 unfolding pointer_row spell_pointer gives
 pointer_spelled = record {
   sound = λ bytes x rest fits e.
-    let a = then_sound word_spelled bytes x rest fits e in
-    let b = then_sound long_spelled a.middle x rest a.are_bytes a.goes in
-    let c = then_sound word_spelled b.middle x rest b.are_bytes b.goes in
-    let d = then_sound long_spelled c.middle x rest c.are_bytes c.goes in
-    let row : PointerRow = record { holder = a.value; offset = b.value; target = c.value; target_offset = d.value } in
-    let text : bytes ≡ spell_pointer row ++ d.middle =
+      let a = then_sound word_spelled bytes x rest fits e in
+      let b = then_sound long_spelled a.middle x rest a.are_bytes a.goes in
+      let c = then_sound word_spelled b.middle x rest b.are_bytes b.goes in
+      let d = then_sound long_spelled c.middle x rest c.are_bytes c.goes in
+      let row : PointerRow = record { holder = a.value; offset = b.value; target = c.value; target_offset = d.value } in
+      let text : bytes ≡ spell_pointer row ++ d.middle =
       a.parts ∙ along (low_bytes 4 a.value) _ _ (b.parts ∙ along (low_bytes 8 b.value) _ _ (c.parts ∙ along (low_bytes 4 c.value) _ _ d.parts)) ∙ sym (simp append_assoc) in
-    subst (λ (p : PointerRow × List ℕ). IsPointer p.0 × (bytes ≡ spell_pointer p.0 ++ p.1)) (ok_is (row, d.middle) (x, rest) d.goes)
+      subst (λ (p : PointerRow × List ℕ). IsPointer p.0 × (bytes ≡ spell_pointer p.0 ++ p.1)) (ok_is (row, d.middle) (x, rest) d.goes)
       (record { holder = a.is; offset = b.is; target = c.is; target_offset = d.is }, text);
   again = λ x rest is.
-    let regroup : spell_pointer x ++ rest ≡ low_bytes 4 x.holder ++ (low_bytes 8 x.offset ++ (low_bytes 4 x.target ++ (low_bytes 8 x.target_offset ++ rest))) = simp append_assoc in
-    ap pointer_row regroup
-    ∙ then_again _ word_spelled x.holder _ is.holder
-    ∙ then_again _ long_spelled x.offset _ is.offset
-    ∙ then_again _ word_spelled x.target _ is.target
-    ∙ then_again _ long_spelled x.target_offset rest is.target_offset;
+      let regroup : spell_pointer x ++ rest ≡ low_bytes 4 x.holder ++ (low_bytes 8 x.offset ++ (low_bytes 4 x.target ++ (low_bytes 8 x.target_offset ++ rest))) = simp append_assoc in
+      ap pointer_row regroup
+      ∙ then_again _ word_spelled x.holder _ is.holder
+      ∙ then_again _ long_spelled x.offset _ is.offset
+      ∙ then_again _ word_spelled x.target _ is.target
+      ∙ then_again _ long_spelled x.target_offset rest is.target_offset;
 }
 
 local_reader : IsReader local_row
@@ -222,20 +222,20 @@ local_spelled : IsSpelled local_row IsLocal spell_local
 unfolding local_row spell_local gives
 local_spelled = record {
   sound = λ bytes x rest fits e.
-    let a = then_sound word_spelled bytes x rest fits e in
-    let b = then_sound long_spelled a.middle x rest a.are_bytes a.goes in
-    let c = then_sound long_spelled b.middle x rest b.are_bytes b.goes in
-    let row : LocalRow = record { ordinal = a.value; place = b.value; size = c.value } in
-    let text : bytes ≡ spell_local row ++ c.middle =
+      let a = then_sound word_spelled bytes x rest fits e in
+      let b = then_sound long_spelled a.middle x rest a.are_bytes a.goes in
+      let c = then_sound long_spelled b.middle x rest b.are_bytes b.goes in
+      let row : LocalRow = record { ordinal = a.value; place = b.value; size = c.value } in
+      let text : bytes ≡ spell_local row ++ c.middle =
       a.parts ∙ along (low_bytes 4 a.value) _ _ (b.parts ∙ along (low_bytes 8 b.value) _ _ c.parts) ∙ sym (simp append_assoc) in
-    subst (λ (p : LocalRow × List ℕ). IsLocal p.0 × (bytes ≡ spell_local p.0 ++ p.1)) (ok_is (row, c.middle) (x, rest) c.goes)
+      subst (λ (p : LocalRow × List ℕ). IsLocal p.0 × (bytes ≡ spell_local p.0 ++ p.1)) (ok_is (row, c.middle) (x, rest) c.goes)
       (record { ordinal = a.is; place = b.is; size = c.is }, text);
   again = λ x rest is.
-    let regroup : spell_local x ++ rest ≡ low_bytes 4 x.ordinal ++ (low_bytes 8 x.place ++ (low_bytes 8 x.size ++ rest)) = simp append_assoc in
-    ap local_row regroup
-    ∙ then_again _ word_spelled x.ordinal _ is.ordinal
-    ∙ then_again _ long_spelled x.place _ is.place
-    ∙ then_again _ long_spelled x.size rest is.size;
+      let regroup : spell_local x ++ rest ≡ low_bytes 4 x.ordinal ++ (low_bytes 8 x.place ++ (low_bytes 8 x.size ++ rest)) = simp append_assoc in
+      ap local_row regroup
+      ∙ then_again _ word_spelled x.ordinal _ is.ordinal
+      ∙ then_again _ long_spelled x.place _ is.place
+      ∙ then_again _ long_spelled x.size rest is.size;
 }
 
 locals_spelled : IsSpelled (counted 524288 local_row) (AreRows 524288 IsLocal) (spell_rows spell_local)
@@ -257,26 +257,26 @@ pub function_spelled : IsSpelled function_row IsFunction spell_function
 unfolding function_row gives
 function_spelled = record {
   sound = λ bytes x rest fits e.
-    let a = then_sound word_spelled bytes x rest fits e in
-    let b = then_sound word_spelled a.middle x rest a.are_bytes a.goes in
-    let c = then_sound word_spelled b.middle x rest b.are_bytes b.goes in
-    let d = then_sound word_spelled c.middle x rest c.are_bytes c.goes in
-    let f = then_sound long_spelled d.middle x rest d.are_bytes d.goes in
-    let g = then_sound locals_spelled f.middle x rest f.are_bytes f.goes in
-    let row : FunctionRow = record { entry = a.value; params = b.value; words = c.value; vars = d.value; allowance = f.value; locals = g.value } in
-    let text : bytes ≡ spell_function row ++ g.middle =
+      let a = then_sound word_spelled bytes x rest fits e in
+      let b = then_sound word_spelled a.middle x rest a.are_bytes a.goes in
+      let c = then_sound word_spelled b.middle x rest b.are_bytes b.goes in
+      let d = then_sound word_spelled c.middle x rest c.are_bytes c.goes in
+      let f = then_sound long_spelled d.middle x rest d.are_bytes d.goes in
+      let g = then_sound locals_spelled f.middle x rest f.are_bytes f.goes in
+      let row : FunctionRow = record { entry = a.value; params = b.value; words = c.value; vars = d.value; allowance = f.value; locals = g.value } in
+      let text : bytes ≡ spell_function row ++ g.middle =
       a.parts ∙ along (low_bytes 4 a.value) _ _ (b.parts ∙ along (low_bytes 4 b.value) _ _ (c.parts ∙ along (low_bytes 4 c.value) _ _ (d.parts ∙ along (low_bytes 4 d.value) _ _
       (f.parts ∙ along (low_bytes 8 f.value) _ _ g.parts)))) ∙ sym (regroup_function row g.middle) in
-    subst (λ (p : FunctionRow × List ℕ). IsFunction p.0 × (bytes ≡ spell_function p.0 ++ p.1)) (ok_is (row, g.middle) (x, rest) g.goes)
+      subst (λ (p : FunctionRow × List ℕ). IsFunction p.0 × (bytes ≡ spell_function p.0 ++ p.1)) (ok_is (row, g.middle) (x, rest) g.goes)
       (record { entry = a.is; params = b.is; words = c.is; vars = d.is; allowance = f.is; locals = g.is }, text);
   again = λ x rest is.
-    ap function_row (regroup_function x rest)
-    ∙ then_again _ word_spelled x.entry _ is.entry
-    ∙ then_again _ word_spelled x.params _ is.params
-    ∙ then_again _ word_spelled x.words _ is.words
-    ∙ then_again _ word_spelled x.vars _ is.vars
-    ∙ then_again _ long_spelled x.allowance _ is.allowance
-    ∙ then_again _ locals_spelled x.locals rest is.locals;
+      ap function_row (regroup_function x rest)
+      ∙ then_again _ word_spelled x.entry _ is.entry
+      ∙ then_again _ word_spelled x.params _ is.params
+      ∙ then_again _ word_spelled x.words _ is.words
+      ∙ then_again _ word_spelled x.vars _ is.vars
+      ∙ then_again _ long_spelled x.allowance _ is.allowance
+      ∙ then_again _ locals_spelled x.locals rest is.locals;
 }
 
 -- ---- instructions
@@ -331,9 +331,10 @@ operands_sound op kind ge le bytes x rest fits e =
     let b = then_sound (word_field (limits_of op).b n.3) a.middle x rest a.are_bytes a.goes in
     let c = then_sound (word_field (limits_of op).c n.4) b.middle x rest b.are_bytes b.goes in
     let m = then_sound (long_field (limits_of op).imm n.5) c.middle x rest c.are_bytes c.goes in
-    subst (λ (p : Fields × List ℕ). AreOperands op kind p.0 × (bytes ≡ spell_operands p.0 ++ p.1)) (ok_is (fields op kind l.value a.value b.value c.value m.value, m.middle) (x, rest) m.goes)
-      (record { is_op = refl; is_kind = refl; line = l.is; a = a.is; b = b.is; c = c.is; imm = m.is },
-        operands_text (fields op kind l.value a.value b.value c.value m.value) bytes l.middle a.middle b.middle c.middle m.middle l.parts a.parts b.parts c.parts m.parts)
+    subst (λ (p : Fields × List ℕ). AreOperands op kind p.0 × (bytes ≡ spell_operands p.0 ++ p.1)) (ok_is (fields op kind l.value a.value b.value c.value m.value, m.middle) (x, rest) m.goes) (
+      record { is_op = refl; is_kind = refl; line = l.is; a = a.is; b = b.is; c = c.is; imm = m.is },
+      operands_text (fields op kind l.value a.value b.value c.value m.value) bytes l.middle a.middle b.middle c.middle m.middle l.parts a.parts b.parts c.parts m.parts,
+    )
 
 operands_again : (op kind : ℕ) → 1 ≤ op → op ≤ 28 → (x : Fields) (rest : List ℕ) → AreOperands op kind x → operands_row op kind (spell_operands x ++ rest) ≡ Ok (fields op kind x.line x.a x.b x.c x.imm, rest)
 unfolding operands_row gives
@@ -371,10 +372,11 @@ fields_sound bytes x rest fits e =
     let o = then_sound operation_spelled bytes x rest fits e in
     let k = then_sound (byte_field (limits_of o.value).kind (narrow o.value o.is.0 o.is.1).0) o.middle x rest o.are_bytes o.goes in
     let z = then_sound zeros_spelled k.middle x rest k.are_bytes k.goes in
-    let t = operands_sound o.value k.value o.is.0 o.is.1 z.middle x rest z.are_bytes z.goes in
-    (fields_form o.value k.value x o.is.0 o.is.1 k.is t.0,
+    let t = operands_sound o.value k.value o.is.0 o.is.1 z.middle x rest z.are_bytes z.goes in (
+      fields_form o.value k.value x o.is.0 o.is.1 k.is t.0,
       fields_text x bytes o.middle k.middle z.middle rest (o.parts ∙ ap (λ (v : ℕ). low_bytes 1 v ++ o.middle) (sym t.0.is_op)) (k.parts ∙ ap (λ (v : ℕ). low_bytes 1 v ++ k.middle) (sym t.0.is_kind))
-        (z.parts ∙ ap (λ (v : ℕ). low_bytes 2 v ++ z.middle) (none z.value z.is)) t.1)
+          (z.parts ∙ ap (λ (v : ℕ). low_bytes 2 v ++ z.middle) (none z.value z.is)) t.1,
+    )
 
 fields_again : (x : Fields) (rest : List ℕ) → AreFields x → fields_row (spell_fields x ++ rest) ≡ Ok (x, rest)
 unfolding fields_row
@@ -396,9 +398,9 @@ pub instruction_spelled : IsSpelled instruction_row IsInstruction spell_instruct
 unfolding instruction_row gives
 instruction_spelled = record {
   sound = λ bytes x rest fits e.
-    let a = then_sound fields_spelled bytes x rest fits e in
-    subst (λ (p : Instr × List ℕ). IsInstruction p.0 × (bytes ≡ spell_instruction p.0 ++ p.1)) (ok_is (instruction a.value, a.middle) (x, rest) a.goes)
+      let a = then_sound fields_spelled bytes x rest fits e in
+      subst (λ (p : Instr × List ℕ). IsInstruction p.0 × (bytes ≡ spell_instruction p.0 ++ p.1)) (ok_is (instruction a.value, a.middle) (x, rest) a.goes)
       (fields_are a.value a.is, a.parts ∙ ap (λ (f : Fields). spell_fields f ++ a.middle) (sym (fields_back a.value a.is)));
   again = λ x rest is.
-    then_again _ fields_spelled (fields_of x) rest is.fields ∙ ap (λ (i : Instr). done (i, rest)) (instruction_back x is.number);
+      then_again _ fields_spelled (fields_of x) rest is.fields ∙ ap (λ (i : Instr). done (i, rest)) (instruction_back x is.number);
 }

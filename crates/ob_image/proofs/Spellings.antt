@@ -27,15 +27,15 @@ pub then_sound : {A B : Type 0} {read : Reader A} {Is : A → Type 0} {spell : A
 then_sound {read = read} {spell = spell} {next = next} spelled bytes y rest fits e =
     elim (answered (read bytes)) [
       | found x middle f ↦
-        let s = spelled.sound bytes x middle fits f in
-        record {
-          value = x;
-          middle = middle;
-          is = s.0;
-          parts = s.1;
-          are_bytes = IsBytes-behind (spell x) middle (subst IsBytes s.1 fits);
-          goes = sym (chained_ok read next bytes x middle f) ∙ e;
-        }
+          let s = spelled.sound bytes x middle fits f in
+          record {
+            value = x;
+            middle = middle;
+            is = s.0;
+            parts = s.1;
+            are_bytes = IsBytes-behind (spell x) middle (subst IsBytes s.1 fits);
+            goes = sym (chained_ok read next bytes x middle f) ∙ e;
+          }
       | stuck left f ↦ let g = sym (chained_err read next bytes left f) ∙ e in absurd cc
     ]
 
@@ -64,22 +64,22 @@ number_sound (suc size) limit [] x rest fits e = absurd (no_number size limit x 
 number_sound (suc size) limit (b ∷ bytes) x rest fits e =
     elim (tested (nat_le b limit)) [
       | yes t ↦
-        let first = chained_ok (one (λ c. nat_le c limit)) (λ low. number size ((limit - low) / 256) >>= λ high. gives (low + 256 * high)) (b ∷ bytes) b bytes (one_passes (λ c. nat_le c limit) b bytes t) in
-        let second : chained (λ high. gives (b + 256 * high)) (number size ((limit - b) / 256) bytes) ≡ Ok (x, rest) = sym first ∙ e in
-        elim (answered (number size ((limit - b) / 256) bytes)) [
-          | found high middle f ↦
-            let s = number_sound size ((limit - b) / 256) bytes high middle fits.1 f in
-            let made : done (b + 256 * high, middle) ≡ done (x, rest) = sym (ap (chained (λ high. gives (b + 256 * high))) f) ∙ second in
-            let low_is : b ≡ (b + 256 * high) % 256 = omega (arith, fits.0) in
-            let high_is : high ≡ (b + 256 * high) / 256 = omega (arith, fits.0) in
-            let in_limit : b ≤ limit = leb-true b limit t in
-            subst (λ (p : ℕ × List ℕ). (p.0 ≤ limit) × (b ∷ bytes ≡ low_bytes (suc size) p.0 ++ p.1)) (ok_is (b + 256 * high, middle) (x, rest) made)
-              (omega (arith, s.0, in_limit), ap (λ (r : List ℕ). b ∷ r) s.1 ∙ (λ i. low_is i ∷ (low_bytes size (high_is i) ++ middle)))
-          | stuck left f ↦ let g = sym (ap (chained (λ high. gives (b + 256 * high))) f) ∙ second in absurd cc
-        ]
+          let first = chained_ok (one (λ c. nat_le c limit)) (λ low. number size ((limit - low) / 256) >>= λ high. gives (low + 256 * high)) (b ∷ bytes) b bytes (one_passes (λ c. nat_le c limit) b bytes t) in
+          let second : chained (λ high. gives (b + 256 * high)) (number size ((limit - b) / 256) bytes) ≡ Ok (x, rest) = sym first ∙ e in
+          elim (answered (number size ((limit - b) / 256) bytes)) [
+            | found high middle f ↦
+                let s = number_sound size ((limit - b) / 256) bytes high middle fits.1 f in
+                let made : done (b + 256 * high, middle) ≡ done (x, rest) = sym (ap (chained (λ high. gives (b + 256 * high))) f) ∙ second in
+                let low_is : b ≡ (b + 256 * high) % 256 = omega (arith, fits.0) in
+                let high_is : high ≡ (b + 256 * high) / 256 = omega (arith, fits.0) in
+                let in_limit : b ≤ limit = leb-true b limit t in
+                subst (λ (p : ℕ × List ℕ). (p.0 ≤ limit) × (b ∷ bytes ≡ low_bytes (suc size) p.0 ++ p.1)) (ok_is (b + 256 * high, middle) (x, rest) made)
+                (omega (arith, s.0, in_limit), ap (λ (r : List ℕ). b ∷ r) s.1 ∙ (λ i. low_is i ∷ (low_bytes size (high_is i) ++ middle)))
+            | stuck left f ↦ let g = sym (ap (chained (λ high. gives (b + 256 * high))) f) ∙ second in absurd cc
+          ]
       | no t ↦
-        let first = chained_err (one (λ c. nat_le c limit)) (λ low. number size ((limit - low) / 256) >>= λ high. gives (low + 256 * high)) (b ∷ bytes) (suc (length bytes)) (one_refuses (λ c. nat_le c limit) b bytes t) in
-        let g = sym first ∙ e in absurd cc
+          let first = chained_err (one (λ c. nat_le c limit)) (λ low. number size ((limit - low) / 256) >>= λ high. gives (low + 256 * high)) (b ∷ bytes) (suc (length bytes)) (one_refuses (λ c. nat_le c limit) b bytes t) in
+          let g = sym first ∙ e in absurd cc
     ]
 
 number_again : (size limit : ℕ) → limit < 256 ^ size → (n : ℕ) (rest : List ℕ) → n ≤ limit → number size limit (low_bytes size n ++ rest) ≡ Ok (n, rest)
@@ -92,7 +92,7 @@ number_again (suc size) limit wide n rest le =
     let less : (limit - n % 256) / 256 < 256 ^ size = omega (arith, power size) in
     let whole : n % 256 + 256 * (n / 256) ≡ n = omega arith in
     chained_ok (one (λ c. nat_le c limit)) (λ low. number size ((limit - low) / 256) >>= λ high. gives (low + 256 * high)) (low_bytes (suc size) n ++ rest) (n % 256) (low_bytes size (n / 256) ++ rest)
-      (one_passes (λ c. nat_le c limit) (n % 256) (low_bytes size (n / 256) ++ rest) passes)
+    (one_passes (λ c. nat_le c limit) (n % 256) (low_bytes size (n / 256) ++ rest) passes)
     ∙ ap (chained (λ high. gives (n % 256 + 256 * high))) (number_again size ((limit - n % 256) / 256) less (n / 256) rest high_le)
     ∙ ap (λ (m : ℕ). done (m, rest)) whole
 
@@ -110,9 +110,9 @@ rows_sound read Is spell spelled (suc n) bytes xs rest fits e =
     let a = then_sound {next = λ first. rows read n >>= λ others. gives (first ∷ others)} spelled bytes xs rest fits e in
     elim (answered (rows read n a.middle)) [
       | found others last f ↦
-        let s = rows_sound read Is spell spelled n a.middle others last a.are_bytes f in
-        let made : done (a.value ∷ others, last) ≡ done (xs, rest) = sym (ap (chained (λ others. gives (a.value ∷ others))) f) ∙ a.goes in
-        subst (λ (p : List _ × List ℕ). (length p.0 ≡ suc n) × AllByRecursion Is p.0 × (bytes ≡ flat_map spell p.0 ++ p.1)) (ok_is (a.value ∷ others, last) (xs, rest) made)
+          let s = rows_sound read Is spell spelled n a.middle others last a.are_bytes f in
+          let made : done (a.value ∷ others, last) ≡ done (xs, rest) = sym (ap (chained (λ others. gives (a.value ∷ others))) f) ∙ a.goes in
+          subst (λ (p : List _ × List ℕ). (length p.0 ≡ suc n) × AllByRecursion Is p.0 × (bytes ≡ flat_map spell p.0 ++ p.1)) (ok_is (a.value ∷ others, last) (xs, rest) made)
           (ap suc s.0, (a.is, s.1), a.parts ∙ along (spell a.value) a.middle (flat_map spell others ++ last) s.2 ∙ sym (append_assoc (spell a.value) (flat_map spell others) last))
       | stuck left f ↦ let g = sym (ap (chained (λ others. gives (a.value ∷ others))) f) ∙ a.goes in absurd cc
     ]
@@ -131,10 +131,11 @@ counted_sound : {A : Type 0} (limit : ℕ) (read : Reader A) (Is : A → Type 0)
 unfolding counted spell_rows
 counted_sound limit read Is spell wide spelled bytes xs rest fits e =
     let a = then_sound {next = λ count. rows read count} (number_spelled 4 limit wide) bytes xs rest fits e in
-    let s = rows_sound read Is spell spelled a.value a.middle xs rest a.are_bytes a.goes in
-    (record { most = omega (arith, s.0, a.is); each = s.1 },
+    let s = rows_sound read Is spell spelled a.value a.middle xs rest a.are_bytes a.goes in (
+      record { most = omega (arith, s.0, a.is); each = s.1 },
       a.parts ∙ along (low_bytes 4 a.value) a.middle (flat_map spell xs ++ rest) s.2
-      ∙ ap (λ (n : ℕ). low_bytes 4 n ++ (flat_map spell xs ++ rest)) (sym s.0) ∙ sym (append_assoc (low_bytes 4 (length xs)) (flat_map spell xs) rest))
+          ∙ ap (λ (n : ℕ). low_bytes 4 n ++ (flat_map spell xs ++ rest)) (sym s.0) ∙ sym (append_assoc (low_bytes 4 (length xs)) (flat_map spell xs) rest),
+    )
 
 counted_again : {A : Type 0} (limit : ℕ) (read : Reader A) (Is : A → Type 0) (spell : A → List ℕ) → limit < 256 ^ 4 → IsSpelled read Is spell
     → (xs : List A) (rest : List ℕ) → AreRows limit Is xs → counted limit read (spell_rows spell xs ++ rest) ≡ Ok (xs, rest)

@@ -70,9 +70,10 @@ image_sound bytes x rest fits e =
     let d = then_sound word_spelled c.middle x rest c.are_bytes c.goes in
     let f = then_sound code_spelled d.middle x rest d.are_bytes d.goes in
     let image : Image = record { statics = a.value; pointers = b.value; functions = c.value; main = d.value; code = f.value } in
-    subst (λ (p : Image × List ℕ). IsImage p.0 × (bytes ≡ spell_image p.0 ++ p.1)) (ok_is (image, f.middle) (x, rest) f.goes)
-      (record { statics = a.is; pointers = b.is; functions = c.is; main = d.is; code = f.is },
-        image_text image bytes h.middle a.middle b.middle c.middle d.middle f.middle (h.parts ∙ ap (λ (v : List ℕ). v ++ h.middle) h.is) a.parts b.parts c.parts d.parts f.parts)
+    subst (λ (p : Image × List ℕ). IsImage p.0 × (bytes ≡ spell_image p.0 ++ p.1)) (ok_is (image, f.middle) (x, rest) f.goes) (
+      record { statics = a.is; pointers = b.is; functions = c.is; main = d.is; code = f.is },
+      image_text image bytes h.middle a.middle b.middle c.middle d.middle f.middle (h.parts ∙ ap (λ (v : List ℕ). v ++ h.middle) h.is) a.parts b.parts c.parts d.parts f.parts,
+    )
 
 image_again : (x : Image) (rest : List ℕ) → IsImage x → image_parts (spell_image x ++ rest) ≡ Ok (x, rest)
 unfolding image_parts gives
@@ -118,9 +119,10 @@ wrong_at seen rest begun shut proper = record {
   refuse [] shut lt b = absurd (omega (arith, length-append seen []))
   refuse (wrong ∷ after) shut lt b =
       let front : take (length seen + 1) (seen ++ wrong ∷ after) ≡ seen ++ wrong ∷ [] =
-        ap (λ (l : List ℕ). take (length seen + 1) l) (sym (append_assoc seen (wrong ∷ []) after)) ∙ take_at (seen ++ wrong ∷ []) after (length seen + 1) (length-append seen (wrong ∷ [])) in
+      ap (λ (l : List ℕ). take (length seen + 1) l) (sym (append_assoc seen (wrong ∷ []) after)) ∙ take_at (seen ++ wrong ∷ []) after (length seen + 1) (length-append seen (wrong ∷ [])) in
       let whole : Spells ((seen ++ wrong ∷ []) ++ b.1) b.0 = subst (λ (l : List ℕ). Spells (l ++ b.1) b.0) front b.2 in
       shut wrong after b.1 refl b.0 (ap image_parts (sym (append_assoc seen (wrong ∷ []) b.1)) ∙ spelled_whole ((seen ++ wrong ∷ []) ++ b.1) b.0 whole)
+
   finish : (rest : List ℕ) → (rest ≡ [] → (x : Image) → Spells seen x → ⊥) → length seen ≡ length (seen ++ rest) → (x : Image) → Spells (seen ++ rest) x → ⊥
   finish [] proper e x s = proper refl x (subst (λ (l : List ℕ). Spells l x) (append-nil seen) s)
   finish (b ∷ rest) proper e x s = absurd (omega (arith, length-append seen (b ∷ rest)))
@@ -132,10 +134,10 @@ trailing bytes x b after fits e =
     let place : length (spell_image x) ≡ length bytes - suc (length after) = omega (arith, ap length s.1, length-append (spell_image x) (b ∷ after)) in
     let begun : IsBegun (spell_image x) = (x, [], (s.0, append-nil (spell_image x))) in
     let first = wrong_at (spell_image x) (b ∷ after) begun
-      (λ wrong behind other same y read.
-        let g = ok_is (x, wrong ∷ other) (y, []) (sym (image_again x (wrong ∷ other) s.0) ∙ read) in
-        let q : wrong ∷ other ≡ [] = ap (λ (p : Image × List ℕ). p.1) g in absurd cc)
-      (λ none y t. absurd cc) in
+    (λ wrong behind other same y read.
+    let g = ok_is (x, wrong ∷ other) (y, []) (sym (image_again x (wrong ∷ other) s.0) ∙ read) in
+    let q : wrong ∷ other ≡ [] = ap (λ (p : Image × List ℕ). p.1) g in absurd cc)
+    (λ none y t. absurd cc) in
     subst (λ (n : ℕ). IsFirstWrong bytes n) place (subst (λ (l : List ℕ). IsFirstWrong l (length (spell_image x))) (sym s.1) first)
 
 -- a part is at fault
@@ -148,10 +150,10 @@ broken bytes left fits e =
     let long : length bytes ≡ length s.seen + left = ap length s.parts ∙ length-append s.seen s.rest ∙ ap (λ (n : ℕ). length s.seen + n) s.count in
     let place : length s.seen ≡ length bytes - left = omega arith in
     let first = wrong_at s.seen s.rest begun
-      (λ wrong after other same y read. let g = sym (s.shut wrong after same other) ∙ read in absurd cc)
-      (λ none y t.
-        let same : bytes ≡ s.seen = s.parts ∙ ap (λ (l : List ℕ). s.seen ++ l) none ∙ append-nil s.seen in
-        let g = sym e ∙ ap image_parts same ∙ spelled_whole s.seen y t in absurd cc) in
+    (λ wrong after other same y read. let g = sym (s.shut wrong after same other) ∙ read in absurd cc)
+    (λ none y t.
+    let same : bytes ≡ s.seen = s.parts ∙ ap (λ (l : List ℕ). s.seen ++ l) none ∙ append-nil s.seen in
+    let g = sym e ∙ ap image_parts same ∙ spelled_whole s.seen y t in absurd cc) in
     (subst (λ (n : ℕ). IsFirstWrong bytes n) place (subst (λ (l : List ℕ). IsFirstWrong l (length s.seen)) (sym s.parts) first), omega arith)
 
 -- ---- what reading answers
@@ -171,11 +173,11 @@ judged bytes fits =
       | found x rest e ↦ at_rest rest e
       | stuck left e ↦ let b = broken bytes left fits e in wrong left (ap ended e) b.0 b.1
     ] where
-  at_rest : {x : Image} (rest : List ℕ) → image_parts bytes ≡ Ok (x, rest) → Judged bytes (ended (image_parts bytes))
-  at_rest {x = x} [] e = whole x (ap ended e) (whole_spelled bytes x fits e)
-  at_rest {x = x} (b ∷ after) e =
-      let s = image_sound bytes x (b ∷ after) fits e in
-      wrong (suc (length after)) (ap ended e ∙ not_ended x b after) (trailing bytes x b after fits e) (omega (arith, ap length s.1, length-append (spell_image x) (b ∷ after)))
+      at_rest : {x : Image} (rest : List ℕ) → image_parts bytes ≡ Ok (x, rest) → Judged bytes (ended (image_parts bytes))
+      at_rest {x = x} [] e = whole x (ap ended e) (whole_spelled bytes x fits e)
+      at_rest {x = x} (b ∷ after) e =
+          let s = image_sound bytes x (b ∷ after) fits e in
+          wrong (suc (length after)) (ap ended e ∙ not_ended x b after) (trailing bytes x b after fits e) (omega (arith, ap length s.1, length-append (spell_image x) (b ∷ after)))
 
 ok_same : (x y : Image) → told x ≡ told y → x ≡ y
 ok_same x y e = cc
@@ -208,6 +210,6 @@ reads_back x (Ok y) is reads = ap told (one_image (spell_image x) y x reads (is,
 reads_back x (Err at) is reads =
     elim (cases_lt at (length (spell_image x))) [
       | inl lt ↦
-        absurd (reads.wrong lt (x, drop (at + 1) (spell_image x), subst (λ (l : List ℕ). Spells l x) (sym (take-append-drop (at + 1) (spell_image x))) (is, refl)))
+          absurd (reads.wrong lt (x, drop (at + 1) (spell_image x), subst (λ (l : List ℕ). Spells l x) (sym (take-append-drop (at + 1) (spell_image x))) (is, refl)))
       | inr ge ↦ absurd (reads.proper (omega (arith, reads.within)) x (is, refl))
     ]

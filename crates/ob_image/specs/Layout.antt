@@ -104,34 +104,34 @@ any_number = 18446744073709551615
 -- from operation 1 on; pointers are ordered by the first four relations alone
 unfoldable pub all_limits : List Limits
 all_limits =
-    up_to 0 0 0 0 0 0 ∷ -- Tick
-    up_to 0 0 any_word 0 0 any_number ∷ -- Set
-    up_to 0 0 any_word any_word 0 0 ∷ -- Move
-    up_to 10 0 any_word any_word 0 0 ∷ -- Convert
-    up_to 10 0 any_word any_word any_word 9 ∷ -- Binary
-    up_to 10 0 any_word any_word any_word 5 ∷ -- Compare
-    up_to 0 0 0 0 0 any_number ∷ -- Jump
-    up_to 0 0 0 any_word 0 any_number ∷ -- JumpZero
-    up_to 0 0 0 any_word 0 any_number ∷ -- JumpNonzero
-    up_to 0 0 any_word any_word 0 any_number ∷ -- Call
-    up_to 0 0 0 any_word 0 0 ∷ -- Return
-    up_to 0 0 any_word 0 0 any_number ∷ -- Static
-    up_to 0 0 any_word 0 0 any_number ∷ -- Local
-    up_to 0 0 0 0 0 any_number ∷ -- Wipe
-    up_to 11 any_word any_word any_word any_word 0 ∷ -- Load
-    up_to 11 any_word any_word any_word any_word 0 ∷ -- Store
-    up_to 0 0 any_word any_word any_word any_number ∷ -- Slide
-    up_to 0 0 any_word any_word 0 any_number ∷ -- SlideBy
-    up_to 0 0 any_word any_word any_word 0 ∷ -- Shift
-    up_to 0 0 any_word any_word any_word 0 ∷ -- Same
-    up_to 0 0 any_word any_word any_word 3 ∷ -- Order
-    up_to 0 0 any_word any_word any_word any_number ∷ -- Difference
-    up_to 0 0 any_word 0 0 0 ∷ -- GetChar
-    up_to 0 0 any_word any_word 0 0 ∷ -- PutChar
-    up_to 0 0 any_word any_word 0 0 ∷ -- Malloc
-    up_to 0 0 any_word any_word any_word 0 ∷ -- Calloc
-    up_to 0 any_word 0 any_word 0 0 ∷ -- Free
-    up_to 0 0 0 any_word 0 0 ∷ -- Exit
+    up_to 0 0 0 0 0 0 ∷  -- Tick
+    up_to 0 0 any_word 0 0 any_number ∷  -- Set
+    up_to 0 0 any_word any_word 0 0 ∷  -- Move
+    up_to 10 0 any_word any_word 0 0 ∷  -- Convert
+    up_to 10 0 any_word any_word any_word 9 ∷  -- Binary
+    up_to 10 0 any_word any_word any_word 5 ∷  -- Compare
+    up_to 0 0 0 0 0 any_number ∷  -- Jump
+    up_to 0 0 0 any_word 0 any_number ∷  -- JumpZero
+    up_to 0 0 0 any_word 0 any_number ∷  -- JumpNonzero
+    up_to 0 0 any_word any_word 0 any_number ∷  -- Call
+    up_to 0 0 0 any_word 0 0 ∷  -- Return
+    up_to 0 0 any_word 0 0 any_number ∷  -- Static
+    up_to 0 0 any_word 0 0 any_number ∷  -- Local
+    up_to 0 0 0 0 0 any_number ∷  -- Wipe
+    up_to 11 any_word any_word any_word any_word 0 ∷  -- Load
+    up_to 11 any_word any_word any_word any_word 0 ∷  -- Store
+    up_to 0 0 any_word any_word any_word any_number ∷  -- Slide
+    up_to 0 0 any_word any_word 0 any_number ∷  -- SlideBy
+    up_to 0 0 any_word any_word any_word 0 ∷  -- Shift
+    up_to 0 0 any_word any_word any_word 0 ∷  -- Same
+    up_to 0 0 any_word any_word any_word 3 ∷  -- Order
+    up_to 0 0 any_word any_word any_word any_number ∷  -- Difference
+    up_to 0 0 any_word 0 0 0 ∷  -- GetChar
+    up_to 0 0 any_word any_word 0 0 ∷  -- PutChar
+    up_to 0 0 any_word any_word 0 0 ∷  -- Malloc
+    up_to 0 0 any_word any_word any_word 0 ∷  -- Calloc
+    up_to 0 any_word 0 any_word 0 0 ∷  -- Free
+    up_to 0 0 0 any_word 0 0 ∷  -- Exit
     []
 
 abbrev pub operations : ℕ

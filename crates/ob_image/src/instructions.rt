@@ -1,11 +1,11 @@
+ghost use Rattle.std.specs.Prelude.{◌≡◌, ◌≤◌};
+ghost use Rattle.ob_image.specs.Instructions.{instruction, integer_type, load_kind, operator, relation};
+ghost use Rattle.ob_image.specs.Layout.{fields_of, type_number, kind_number, operator_number, relation_number, AreFields};
+
 use crate::layout::Fields;
 use ob_code::Instr;
 use ob_model::LoadKind;
 use ob_words::{BinOp, IntType, Relation};
-
-ghost use Rattle.std.specs.Prelude.{◌≡◌, ◌≤◌};
-ghost use Rattle.ob_image.specs.Instructions.{instruction, integer_type, load_kind, operator, relation};
-ghost use Rattle.ob_image.specs.Layout.{fields_of, type_number, kind_number, operator_number, relation_number, AreFields};
 
 /// The number of an integer type: its place in the order of `IntType`, from 0.
 fn type_number(kind: IntType) -> u8
@@ -164,8 +164,20 @@ pub(crate) fn fields_of(instr: Instr) -> Fields
         Instr::Set { a, imm } => fields(2, 0, 0, a, 0, 0, imm.cast_unsigned()),
         Instr::Move { a, b } => fields(3, 0, 0, a, b, 0, 0),
         Instr::Convert { kind, a, b } => fields(4, type_number(kind), 0, a, b, 0, 0),
-        Instr::Binary { kind, operator, a, b, c } => fields(5, type_number(kind), 0, a, b, c, operator_number(operator)),
-        Instr::Compare { kind, relation, a, b, c } => fields(6, type_number(kind), 0, a, b, c, relation_number(relation)),
+        Instr::Binary {
+            kind,
+            operator,
+            a,
+            b,
+            c,
+        } => fields(5, type_number(kind), 0, a, b, c, operator_number(operator)),
+        Instr::Compare {
+            kind,
+            relation,
+            a,
+            b,
+            c,
+        } => fields(6, type_number(kind), 0, a, b, c, relation_number(relation)),
         Instr::Jump { imm } => fields(7, 0, 0, 0, 0, 0, imm.cast_unsigned()),
         Instr::JumpZero { b, imm } => fields(8, 0, 0, 0, b, 0, imm.cast_unsigned()),
         Instr::JumpNonzero { b, imm } => fields(9, 0, 0, 0, b, 0, imm.cast_unsigned()),
@@ -174,8 +186,20 @@ pub(crate) fn fields_of(instr: Instr) -> Fields
         Instr::Static { a, imm } => fields(12, 0, 0, a, 0, 0, imm.cast_unsigned()),
         Instr::Local { a, imm } => fields(13, 0, 0, a, 0, 0, imm.cast_unsigned()),
         Instr::Wipe { imm } => fields(14, 0, 0, 0, 0, 0, imm.cast_unsigned()),
-        Instr::Load { kind, line, a, b, c } => fields(15, kind_number(kind), line, a, b, c, 0),
-        Instr::Store { kind, line, a, b, c } => fields(16, kind_number(kind), line, a, b, c, 0),
+        Instr::Load {
+            kind,
+            line,
+            a,
+            b,
+            c,
+        } => fields(15, kind_number(kind), line, a, b, c, 0),
+        Instr::Store {
+            kind,
+            line,
+            a,
+            b,
+            c,
+        } => fields(16, kind_number(kind), line, a, b, c, 0),
         Instr::Slide { a, b, c, imm } => fields(17, 0, 0, a, b, c, imm.cast_unsigned()),
         Instr::SlideBy { a, b, imm } => fields(18, 0, 0, a, b, 0, imm.cast_unsigned()),
         Instr::Shift { a, b, c } => fields(19, 0, 0, a, b, c, 0),
@@ -197,30 +221,108 @@ pub(crate) fn instruction(f: Fields) -> Instr
     requires { AreFields f }
     ensures { result ≡ instruction f }
 {
-    let Fields { op, kind, line, a, b, c, imm } = f;
+    let Fields {
+        op,
+        kind,
+        line,
+        a,
+        b,
+        c,
+        imm,
+    } = f;
     match op {
         1 => Instr::Tick,
-        2 => Instr::Set { a, imm: imm.cast_signed() },
+        2 => Instr::Set {
+            a,
+            imm: imm.cast_signed(),
+        },
         3 => Instr::Move { a, b },
-        4 => Instr::Convert { kind: integer_type(kind), a, b },
-        5 => Instr::Binary { kind: integer_type(kind), operator: operator(imm), a, b, c },
-        6 => Instr::Compare { kind: integer_type(kind), relation: relation(imm), a, b, c },
-        7 => Instr::Jump { imm: imm.cast_signed() },
-        8 => Instr::JumpZero { b, imm: imm.cast_signed() },
-        9 => Instr::JumpNonzero { b, imm: imm.cast_signed() },
-        10 => Instr::Call { a, b, imm: imm.cast_signed() },
+        4 => Instr::Convert {
+            kind: integer_type(kind),
+            a,
+            b,
+        },
+        5 => Instr::Binary {
+            kind: integer_type(kind),
+            operator: operator(imm),
+            a,
+            b,
+            c,
+        },
+        6 => Instr::Compare {
+            kind: integer_type(kind),
+            relation: relation(imm),
+            a,
+            b,
+            c,
+        },
+        7 => Instr::Jump {
+            imm: imm.cast_signed(),
+        },
+        8 => Instr::JumpZero {
+            b,
+            imm: imm.cast_signed(),
+        },
+        9 => Instr::JumpNonzero {
+            b,
+            imm: imm.cast_signed(),
+        },
+        10 => Instr::Call {
+            a,
+            b,
+            imm: imm.cast_signed(),
+        },
         11 => Instr::Return { b },
-        12 => Instr::Static { a, imm: imm.cast_signed() },
-        13 => Instr::Local { a, imm: imm.cast_signed() },
-        14 => Instr::Wipe { imm: imm.cast_signed() },
-        15 => Instr::Load { kind: load_kind(kind), line, a, b, c },
-        16 => Instr::Store { kind: load_kind(kind), line, a, b, c },
-        17 => Instr::Slide { a, b, c, imm: imm.cast_signed() },
-        18 => Instr::SlideBy { a, b, imm: imm.cast_signed() },
+        12 => Instr::Static {
+            a,
+            imm: imm.cast_signed(),
+        },
+        13 => Instr::Local {
+            a,
+            imm: imm.cast_signed(),
+        },
+        14 => Instr::Wipe {
+            imm: imm.cast_signed(),
+        },
+        15 => Instr::Load {
+            kind: load_kind(kind),
+            line,
+            a,
+            b,
+            c,
+        },
+        16 => Instr::Store {
+            kind: load_kind(kind),
+            line,
+            a,
+            b,
+            c,
+        },
+        17 => Instr::Slide {
+            a,
+            b,
+            c,
+            imm: imm.cast_signed(),
+        },
+        18 => Instr::SlideBy {
+            a,
+            b,
+            imm: imm.cast_signed(),
+        },
         19 => Instr::Shift { a, b, c },
         20 => Instr::Same { a, b, c },
-        21 => Instr::Order { relation: relation(imm), a, b, c },
-        22 => Instr::Difference { a, b, c, imm: imm.cast_signed() },
+        21 => Instr::Order {
+            relation: relation(imm),
+            a,
+            b,
+            c,
+        },
+        22 => Instr::Difference {
+            a,
+            b,
+            c,
+            imm: imm.cast_signed(),
+        },
         23 => Instr::GetChar { a },
         24 => Instr::PutChar { a, b },
         25 => Instr::Malloc { a, b },

@@ -7,11 +7,9 @@ ghost use Rattle.ob_image.specs.Spelling.{IsImage, spell_image};
 pub fn law_no_prefix()
     ensures { (image other : Image) (rest : List ℕ) → IsImage image → IsImage other
         → spell_image image ++ rest ≡ spell_image other → (image ≡ other) × (rest ≡ []) }
-{
-}
+{}
 
 /// Reading what was written gives the image, and nothing else.
 pub fn law_reads_back()
     ensures { (image : Image) (read : Result Image ℕ) → IsImage image → Reads (spell_image image) read → read ≡ Ok image }
-{
-}
+{}

@@ -1,4 +1,7 @@
-//! Images of the flat machine as bytes.
+//! Images of the flat machine as bytes: the one spelling of an image, and the image that bytes spell or
+//! else the first byte from which no image's spelling is left. Reading takes memory in proportion to the
+//! bytes that are there, and time linear in them. Stands on ob_code for images and their rules, on ob_model
+//! and ob_words for kinds, operators and fields of bytes, and on ob_base for byte lists.
 #![tactic(auto)]
 
 pub use faults::ImageFault;
@@ -8,12 +11,14 @@ pub use writing::write_image;
 
 mod faults;
 mod fields;
-mod instructions;
 mod given;
+mod instructions;
 mod laws;
 mod layout;
 mod numbers;
 mod parts;
 mod reading;
 mod rows;
+#[cfg(test)]
+mod tests;
 mod writing;

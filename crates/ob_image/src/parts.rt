@@ -86,7 +86,14 @@ impl Row for LocalRow {
         let (ordinal, rest) = word(u32::MAX, bytes)?;
         let (place, rest) = long(u64::MAX, rest)?;
         let (size, rest) = long(u64::MAX, rest)?;
-        Ok((LocalRow { ordinal, place, size }, rest))
+        Ok((
+            LocalRow {
+                ordinal,
+                place,
+                size,
+            },
+            rest,
+        ))
     }
 
     #[tactic(auto, unfolding(crate::specs::Spelling::spell_local))]

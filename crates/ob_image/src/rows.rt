@@ -41,7 +41,11 @@ fn rows<T: Row>(alloc: Global, count: u32, bytes: &[u8]) -> Result<(Vec<T>, &[u8
 
 /// A count up to `limit` and that many rows, and the bytes after them.
 #[tactic(auto, unfolding(crate::specs::Reading::counted, crate::specs::Reading::gives))]
-pub(crate) fn counted<T: Row>(alloc: Global, limit: u32, bytes: &[u8]) -> Result<(Vec<T>, &[u8]), Stop>
+pub(crate) fn counted<T: Row>(
+    alloc: Global,
+    limit: u32,
+    bytes: &[u8],
+) -> Result<(Vec<T>, &[u8]), Stop>
     ensures { Gives (λ x. (x.0.items, x.1.now)) result (counted limit T.reader bytes.now) }
 {
     let (count, rest) = word(limit, bytes)?;

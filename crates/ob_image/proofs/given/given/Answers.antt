@@ -14,4 +14,4 @@ pub returns : goal.returns
 returns c =
     rw (c.from_vec.ensures, c.in_ok-from_slice.ensures.items)
     (split_all c.args.count c.args.bytes.now c.split_at.result.0.now c.split_at.result.1.now c.split_at.ensures.front c.split_at.ensures.back c.if-bytes-count.false
-      (λ some ends. let t = c.ends_with_zero.ensures.1 (some, ends) in let f = c.if-ends_with_zero.false in absurd cc))
+    (λ some ends. let t = c.ends_with_zero.ensures.1 (some, ends) in let f = c.if-ends_with_zero.false in absurd cc))
