@@ -1,10 +1,9 @@
 -- Numbers of some bytes, as the code reads and writes them.
-use Rattle.std.proofs.Common.{◌≡◌, ◌≢◌, ℕ, zero, suc, ◌+◌, ◌-◌, ◌*◌, ◌/◌, ◌%◌, ◌^◌, ◌<◌, ◌≤◌, Bool, true, false, cond, List, [], ◌∷◌, ◌++◌, length, Result, Ok, Err, refl, sym, ap, subst, ◌∙◌, arith, get_or, drop, eq-eqb, Bor}
-use Rattle.std.specs.Prelude.{nat_le}
+use Rattle.std.proofs.Common.{◌≡◌, ℕ, zero, suc, ◌+◌, ◌-◌, ◌*◌, ◌/◌, ◌%◌, ◌^◌, ◌<◌, ◌≤◌, List, [], ◌∷◌, length, Result, Ok, Err, refl, ap, ◌∙◌, arith, get_or, drop, eq-eqb, Bor}
 use Rattle.std.specs.Int.{w32, w64, to_le_bytes}
 use Rattle.std.proofs.lemmas.Bool.{le-leb, lt-leb, ne_eqb}
 use Rattle.ob_words.specs.Fields.{low_bytes}
-use Rattle.ob_image.specs.Reading.{Reader, chained, one, one_if, gives, number, exactly, Fails, Gives, ◌>>=◌}
+use Rattle.ob_image.specs.Reading.{chained, one, gives, number, exactly, Fails, Gives}
 use Rattle.ob_image.specs.declared.faults.Stop.{Stop}
 use Rattle.ob_image.specs.declared.faults.Stop.TheVariants as stops
 

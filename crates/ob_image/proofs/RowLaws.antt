@@ -1,8 +1,7 @@
 -- Each row's reader, and its spelling.
-use Rattle.std.proofs.Common.{◌≡◌, ℕ, zero, suc, ◌+◌, ◌-◌, ◌^◌, ◌<◌, ◌≤◌, Bool, true, false, List, [], ◌∷◌, ◌++◌, length, get_or, take, drop, Result, Ok, Err, refl, sym, ap, subst, ◌∙◌, append_assoc, arith, inl, inr, eqb, eq-eqb}
-use Rattle.std.specs.Prelude.{◌==◌, ◌&&◌, not, nat_le}
-use Rattle.std.specs.List.{AllByRecursion}
-use Rattle.std.proofs.lemmas.Bool.{cases_lt, eqb-true, eqb-false, leb-true, le-leb, ne_eqb}
+use Rattle.std.proofs.Common.{◌≡◌, ℕ, zero, suc, ◌-◌, ◌<◌, ◌≤◌, Bool, true, false, List, [], ◌∷◌, ◌++◌, length, get_or, take, drop, Ok, refl, sym, ap, subst, ◌∙◌, append_assoc, arith, inl, inr, eqb, eq-eqb}
+use Rattle.std.specs.Prelude.{◌==◌, ◌&&◌, nat_le}
+use Rattle.std.proofs.lemmas.Bool.{cases_lt, eqb-true, eqb-false, leb-true, le-leb}
 use Rattle.std.proofs.lemmas.List.{take-append-drop, length-take-le}
 use Rattle.ob_words.specs.Fields.{low_bytes}
 use Rattle.ob_code.specs.declared.image.FunctionRow.{FunctionRow}
@@ -13,13 +12,13 @@ use Rattle.ob_code.specs.declared.instructions.Instr.{Instr}
 use Rattle.ob_image.specs.declared.layout.Fields.{Fields}
 use Rattle.ob_image.specs.Instructions.{instruction}
 use Rattle.ob_image.specs.Layout.{any_word, any_number, operations, fields, fields_of, limits_of, spell_fields, spell_instruction, AreFields, IsInstruction}
-use Rattle.ob_image.specs.Reading.{Reader, chained, one, one_if, gives, exactly, number, rows, counted, given, static_row, pointer_row, local_row, function_row, operation, operands_row, fields_row, instruction_row, ◌>>=◌}
+use Rattle.ob_image.specs.Reading.{one, gives, exactly, number, counted, given, static_row, pointer_row, local_row, function_row, operation, operands_row, fields_row, instruction_row, ◌>>=◌}
 use Rattle.ob_image.specs.Spelling.{spell_static, spell_pointer, spell_local, spell_function, spell_rows, AreRows, IsStatic, IsPointer, IsLocal, IsFunction, EndsNonzero}
 use Rattle.ob_image.proofs.Digits.{byte_is}
 use Rattle.ob_image.proofs.Forms.{instruction_back, fields_back, fields_are, narrow}
 use Rattle.ob_image.proofs.Givens.{given_short, given_zero, given_all}
-use Rattle.ob_image.proofs.Readers.{IsBytes, IsBytes-front, IsReader, HasByte, one_reader, then_reader, gives_reader, number_reader, counted_reader, done, ok_is, Tested, yes, no, tested, one_passes, one_refuses}
-use Rattle.ob_image.proofs.Spellings.{IsSpelled, Next, then_sound, then_again, along, number_spelled, counted_spelled}
+use Rattle.ob_image.proofs.Readers.{IsBytes, IsBytes-front, IsReader, one_reader, then_reader, gives_reader, number_reader, counted_reader, done, ok_is, yes, no, tested, one_passes, one_refuses}
+use Rattle.ob_image.proofs.Spellings.{IsSpelled, then_sound, then_again, along, number_spelled, counted_spelled}
 
 pub word_spelled : IsSpelled (number 4 any_word) (λ n. n ≤ any_word) (low_bytes 4)
 word_spelled = number_spelled 4 any_word (omega arith)

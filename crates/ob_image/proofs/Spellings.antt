@@ -1,13 +1,12 @@
 -- What a reader reads is spelled so, and what is spelled so is read.
-use Rattle.std.proofs.Common.{◌≡◌, ℕ, zero, suc, ◌+◌, ◌-◌, ◌*◌, ◌/◌, ◌%◌, ◌^◌, ◌<◌, ◌≤◌, Bool, true, false, cond, List, [], ◌∷◌, ◌++◌, length, Result, Ok, Err, refl, sym, ap, subst, ◌∙◌, append_assoc, arith}
+use Rattle.std.proofs.Common.{◌≡◌, ℕ, zero, suc, ◌+◌, ◌-◌, ◌*◌, ◌/◌, ◌%◌, ◌^◌, ◌<◌, ◌≤◌, true, List, [], ◌∷◌, ◌++◌, length, Ok, refl, sym, ap, subst, ◌∙◌, append_assoc, arith}
 use Rattle.std.specs.Prelude.{nat_le}
 use Rattle.std.specs.List.{AllByRecursion, flat_map}
 use Rattle.std.proofs.lemmas.Bool.{le-leb, leb-true}
-use Rattle.std.proofs.lemmas.List.{append-nil}
 use Rattle.ob_words.specs.Fields.{low_bytes}
-use Rattle.ob_image.specs.Reading.{Reader, chained, one, one_if, gives, number, rows, counted, ◌>>=◌}
+use Rattle.ob_image.specs.Reading.{Reader, chained, one, gives, number, rows, counted, ◌>>=◌}
 use Rattle.ob_image.specs.Spelling.{AreRows, spell_rows}
-use Rattle.ob_image.proofs.Readers.{IsBytes, IsBytes-behind, Answered, found, stuck, answered, chained_ok, chained_err, done, ok_is, Tested, yes, no, tested, one_passes, one_refuses}
+use Rattle.ob_image.proofs.Readers.{IsBytes, IsBytes-behind, found, stuck, answered, chained_ok, chained_err, done, ok_is, yes, no, tested, one_passes, one_refuses}
 
 pub record IsSpelled {A : Type 0} (read : Reader A) (Is : A → Type 0) (spell : A → List ℕ) : Type 0 where
   pub sound : (bytes : List ℕ) (x : A) (rest : List ℕ) → IsBytes bytes → read bytes ≡ Ok (x, rest) → Is x × (bytes ≡ spell x ++ rest)

@@ -1,18 +1,15 @@
 -- Which image the bytes spell, and where the first wrong byte stands.
-use Rattle.std.proofs.Common.{◌≡◌, ℕ, zero, suc, ◌+◌, ◌-◌, ◌^◌, ◌<◌, ◌≤◌, Bool, true, false, List, [], ◌∷◌, ◌++◌, length, take, drop, Result, Ok, Err, refl, sym, ap, subst, ◌∙◌, append_assoc, arith}
-use Rattle.std.specs.Prelude.{◌==◌}
+use Rattle.std.proofs.Common.{◌≡◌, ℕ, suc, ◌+◌, ◌-◌, ◌<◌, ◌≤◌, List, [], ◌∷◌, ◌++◌, length, take, drop, Result, Ok, Err, refl, sym, ap, subst, ◌∙◌, append_assoc, arith}
 use Rattle.std.proofs.lemmas.List.{append-nil, take_at, length-append, take-append-drop}
 use Rattle.std.proofs.lemmas.Bool.{cases_lt, ne_eqb}
-use Rattle.std.proofs.Common.{inl, inr, get_or, Fits, w8}
+use Rattle.std.proofs.Common.{inl, inr, get_or}
 use Rattle.ob_words.specs.Fields.{low_bytes}
 use Rattle.ob_code.specs.declared.image.Image.{Image}
-use Rattle.ob_image.specs.declared.faults.ImageFault.{ImageFault}
-use Rattle.ob_image.specs.declared.faults.ImageFault.TheVariants as faults
-use Rattle.ob_image.specs.Faults.{Spells, IsBegun, IsFirstWrong, Reads, IsAnswer}
+use Rattle.ob_image.specs.Faults.{Spells, IsBegun, IsFirstWrong, Reads}
 use Rattle.ob_image.specs.Layout.{any_word, spell_instruction, IsInstruction}
-use Rattle.ob_image.specs.Reading.{Reader, chained, gives, exactly, number, counted, static_row, pointer_row, function_row, instruction_row, image_parts, image_of, ended, ◌>>=◌}
+use Rattle.ob_image.specs.Reading.{gives, exactly, counted, static_row, pointer_row, function_row, instruction_row, image_parts, image_of, ended}
 use Rattle.ob_image.specs.Spelling.{head, spell_static, spell_pointer, spell_function, spell_rows, spell_image, AreRows, IsStatic, IsPointer, IsFunction, IsImage}
-use Rattle.ob_image.proofs.Readers.{IsBytes, IsBytes-append, IsBytes-front, IsReader, Stops, then_reader, gives_reader, exactly_reader, number_reader, counted_reader, done, ok_is, Answered, found, stuck, answered}
+use Rattle.ob_image.proofs.Readers.{IsBytes, IsBytes-append, IsBytes-front, IsReader, then_reader, gives_reader, exactly_reader, number_reader, counted_reader, done, ok_is, found, stuck, answered}
 use Rattle.ob_image.proofs.RowLaws.{word_spelled, exactly_spelled, static_reader, static_spelled, pointer_reader, pointer_spelled, function_reader, function_spelled, instruction_reader, instruction_spelled}
 use Rattle.ob_image.proofs.Spellings.{IsSpelled, then_sound, then_again, along, counted_spelled}
 

@@ -1,6 +1,6 @@
 -- How an instruction stands in an image: one byte for the operation, one for a type, two of 0, three words and a source line
 -- of four bytes, and a number of eight. What a form doesn't name is 0. All numbers have their lowest byte first.
-use Rattle.std.specs.Prelude.{◌≡◌, ℕ, ◌-◌, ◌≤◌, ℤ, FitsSigned, List, [], ◌∷◌, ◌++◌, get_or}
+use Rattle.std.specs.Prelude.{ℕ, ◌-◌, ◌≤◌, FitsSigned, List, [], ◌∷◌, ◌++◌, get_or}
 use Rattle.std.specs.Int.{cast_unsigned, w64}
 use Rattle.ob_words.specs.declared.types.IntType.{IntType}
 use Rattle.ob_words.specs.declared.types.IntType.TheVariants.{Char, SChar, UChar, Short, UShort, Int, UInt, Long, ULong, LLong, ULLong}

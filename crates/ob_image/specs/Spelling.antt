@@ -1,6 +1,6 @@
 -- The spelling of an image: head, static objects, pointers, functions, the first function, code. All numbers have their lowest
 -- byte first, and each list begins with its count.
-use Rattle.std.specs.Prelude.{◌≡◌, ◌≢◌, ℕ, ◌-◌, ◌+◌, ◌<◌, ◌≤◌, List, [], ◌∷◌, ◌++◌, length, slice_index, All}
+use Rattle.std.specs.Prelude.{◌≢◌, ℕ, ◌-◌, ◌<◌, ◌≤◌, List, [], ◌∷◌, ◌++◌, length, slice_index}
 use Rattle.std.specs.List.{flat_map, AllByRecursion}
 use Rattle.ob_words.specs.Fields.{low_bytes}
 use Rattle.ob_code.specs.declared.image.FunctionRow.{FunctionRow}
@@ -8,7 +8,6 @@ use Rattle.ob_code.specs.declared.image.Image.{Image}
 use Rattle.ob_code.specs.declared.image.LocalRow.{LocalRow}
 use Rattle.ob_code.specs.declared.image.PointerRow.{PointerRow}
 use Rattle.ob_code.specs.declared.image.StaticRow.{StaticRow}
-use Rattle.ob_code.specs.declared.instructions.Instr.{Instr}
 use Rattle.ob_image.specs.Layout.{any_word, any_number, spell_instruction, IsInstruction}
 
 -- ---- rows

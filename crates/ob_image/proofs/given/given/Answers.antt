@@ -1,4 +1,3 @@
-use Rattle.std.proofs.Common.{◌≡◌, length, ap, ◌∙◌}
 use Rattle.ob_image.proofs.Givens.{given_short, split_zero, split_all}
 use Rattle.ob_image.proofs.given.given.Goals as goal
 

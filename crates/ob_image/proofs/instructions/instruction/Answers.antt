@@ -1,5 +1,5 @@
 use Rattle.std.proofs.Common.{◌≤◌, ℕ, ◌≡◌, subst, arith}
-use Rattle.ob_image.specs.Layout.{limits_of, all_limits, operations}
+use Rattle.ob_image.specs.Layout.{limits_of, all_limits}
 use Rattle.ob_image.specs.Instructions.{instruction, instructions}
 use Rattle.ob_image.proofs.instructions.instruction.Goals as goal
 

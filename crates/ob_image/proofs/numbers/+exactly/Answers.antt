@@ -1,4 +1,3 @@
-use Rattle.std.proofs.Common.{◌≡◌, arith}
 use Rattle.std.proofs.lemmas.List.{take_rest}
 use Rattle.ob_image.proofs.Digits.{exactly_none, exactly_wrong, exactly_gives}
 use Rattle.ob_image.proofs.numbers.+exactly.Goals as goal

@@ -1,7 +1,6 @@
-use Rattle.std.proofs.Common.{◌≡◌, ◌≤◌, ◌<◌, ℕ, ◌-◌, ◌/◌, subst, sym, ap, ◌∙◌, get_or, arith, rules}
+use Rattle.std.proofs.Common.{◌≤◌, get_or, arith}
 use Rattle.std.proofs.lemmas.Result.{err_from_is_err_and}
 use Rattle.std.proofs.lemmas.List.{take_rest}
-use Rattle.ob_image.specs.Reading.{Gives, number, Fails}
 use Rattle.ob_image.proofs.Digits.{number_none, number_past, number_more, number_fails}
 use Rattle.ob_image.proofs.numbers.+number.Goals as goal
 

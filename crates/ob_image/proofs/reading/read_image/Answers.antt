@@ -1,5 +1,4 @@
-use Rattle.std.proofs.Common.{◌≡◌, ◌<◌, ℕ, arith, get_or}
-use Rattle.ob_image.specs.Reading.{image_of}
+use Rattle.std.proofs.Common.{arith}
 use Rattle.ob_image.proofs.Wholes.{read_whole, read_wrong, are_bytes}
 use Rattle.ob_image.proofs.reading.read_image.Goals as goal
 

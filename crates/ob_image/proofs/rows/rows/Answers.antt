@@ -1,4 +1,3 @@
-use Rattle.std.proofs.Common.{◌≡◌, ◌++◌, ◌∷◌, []}
 use Rattle.std.proofs.lemmas.Result.{err_from_is_err_and}
 use Rattle.ob_image.specs.Reading.{rows}
 use Rattle.ob_image.proofs.Loops.{goes_on, ends, is_done}
