@@ -1,55 +1,125 @@
--- Runs of small images on a stack of 64 bytes, with the cycle 0, 1, 2 of manufactured values, no input and ten steps.
-use Rattle.std.specs.Prelude.{◌≡◌, ℕ, pos, List, [], ◌∷◌}
+-- Laws of the machine. The small images run on a stack of 256 bytes, with the cycle 0, 1, 2 of manufactured values and ten
+-- steps, and mostly without input.
+use Rattle.std.specs.Prelude.{◌≡◌, ℕ, ◌+◌, ◌*◌, ◌≤◌, pos, negsuc, List, [], ◌∷◌, length}
 use Rattle.ob_model.specs.declared.endings.Ending.{Ending}
-use Rattle.ob_model.specs.declared.endings.Ending.TheVariants.{Ended, Spent, Descriptors}
+use Rattle.ob_model.specs.declared.endings.Ending.TheVariants.{Ended, Steps, Divide, Stack, Descriptors, Far, Spent, ReadFault}
 use Rattle.ob_model.specs.declared.settings.Mode.TheVariants.{Oblivious, Boundless}
 use Rattle.ob_model.specs.declared.settings.RunSettings.{RunSettings}
 use Rattle.ob_model.specs.declared.strays.Act.TheVariants as act
 use Rattle.ob_model.specs.declared.strays.StrayEvent.{StrayEvent}
-use Rattle.ob_model.specs.Endings.{closed, plain}
+use Rattle.ob_model.specs.Endings.{InputEnd, closed, failed, plain}
 use Rattle.ob_code.specs.declared.image.Image.{Image}
-use Rattle.ob_code.specs.Examples.{settings_of, hello, return_place, endless, far_pointer, first_block, reused_block, past_the_end}
-use Rattle.ob_code.specs.Start.{laid_out, run_from, outcome_of}
+use Rattle.ob_code.specs.Courses.{stray_event}
+use Rattle.ob_code.specs.Examples as examples
+use Rattle.ob_code.specs.Examples.{settings_of}
+use Rattle.ob_code.specs.Start.{flat_instructions, laid_out, run_from, outcome_of}
 use Rattle.ob_code.specs.State.{Final}
 
-abbrev pub small_run : Image → RunSettings → Final
-small_run image settings =
-    run_from (record { image = image; settings = settings; cycle = 0 ∷ 1 ∷ 2 ∷ []; input_end = closed }) (laid_out 64 image settings) 0 [] 10
+abbrev pub run_on : Image → RunSettings → List ℕ → InputEnd → Final
+run_on image settings input input_end =
+    run_from (record { image = image; settings = settings; cycle = 0 ∷ 1 ∷ 2 ∷ []; input_end = input_end }) (laid_out 256 image settings) 0 input 10
+
+-- without input, with room for one out-of-bounds pointer and 32 bytes of heap
+abbrev pub small_run : Image → Final
+small_run image = run_on image (settings_of Oblivious 1 32) [] closed
 
 -- the run ends so, after so many instructions, with this output, these stray accesses and this place in the cycle
 abbrev pub Gives : Final → Ending → ℕ → List ℕ → List StrayEvent → ℕ → Type 0
 Gives f ending count output events place =
     (outcome_of f ≡ record { finish = plain ending; output = output; events = events; place = place }) × (f.state.count ≡ count)
 
+-- the same where nothing is written and nothing goes astray
+abbrev pub Ends : Final → Ending → ℕ → Type 0
+Ends f ending count = Gives f ending count [] [] 0
+
+-- ---- steps, jumps and calls
+
 abbrev pub HelloIsWritten : Type 0
-HelloIsWritten = Gives (small_run hello (settings_of Oblivious 1 32)) (Ended (pos 3)) 4 (72 ∷ []) [] 0
+HelloIsWritten = Gives (small_run examples.hello) (Ended (pos 3)) 4 (72 ∷ []) [] 0
 
 abbrev pub ReturnPlaceIsCodeLength : Type 0
-ReturnPlaceIsCodeLength = Gives (small_run return_place (settings_of Oblivious 1 32)) (Ended (pos 0)) 3 (3 ∷ []) [] 0
+ReturnPlaceIsCodeLength = Gives (small_run examples.return_place) (Ended (pos 0)) 3 (3 ∷ []) [] 0
 
 abbrev pub EndlessIsSpent : Type 0
-EndlessIsSpent = Gives (small_run endless (settings_of Oblivious 1 32)) Spent 22 [] [] 0
+EndlessIsSpent = Ends (small_run examples.endless) Spent 22
+
+-- `main` takes the first of ten steps, and the tenth tick finds none
+abbrev pub TicksTakeSteps : Type 0
+TicksTakeSteps = Ends (small_run examples.ticking) Steps 19
+
+abbrev pub JumpsGoByZero : Type 0
+JumpsGoByZero = Ends (small_run examples.jumping) (Ended (pos 7)) 8
+
+abbrev pub ArgumentsAndResultArrive : Type 0
+ArgumentsAndResultArrive = Ends (small_run examples.adding) (Ended (pos 42)) 6
+
+abbrev pub CallReturnsAfterItself : Type 0
+CallReturnsAfterItself = Ends (small_run examples.linking) (Ended (pos 1)) 3
+
+abbrev pub StackHoldsTwoHalves : Type 0
+StackHoldsTwoHalves = Ends (small_run examples.too_deep) Stack 2
+
+-- ---- numbers and input
+
+abbrev pub CharIsSigned : Type 0
+CharIsSigned = Ends (small_run examples.converting) (Ended (negsuc 55)) 3 × Ends (small_run examples.comparing) (Ended (pos 1)) 5
+
+abbrev pub DivisionByZeroEnds : Type 0
+DivisionByZeroEnds = Ends (small_run examples.dividing) Divide 3
+
+abbrev pub DisplacementsAreExact : Type 0
+DisplacementsAreExact = Ends (small_run examples.sliding) (Ended (pos 3)) 5 × Ends (small_run examples.sliding_far) Far 2
+
+abbrev pub InputEnds : Type 0
+InputEnds =
+    Ends (run_on examples.reading (settings_of Oblivious 1 32) (65 ∷ []) closed) (Ended (negsuc 0)) 3
+    × Ends (run_on examples.reading (settings_of Oblivious 1 32) (65 ∷ []) failed) ReadFault 2
+
+-- ---- pointers
 
 abbrev pub FarPointerHasSlot : Type 0
 FarPointerHasSlot =
-    Gives (small_run far_pointer (settings_of Oblivious 1 32)) (Ended (pos 0)) 8 (1 ∷ []) [] 0
-    × Gives (small_run far_pointer (settings_of Oblivious 0 32)) Descriptors 3 [] [] 0
+    Gives (small_run examples.far_pointer) (Ended (pos 0)) 8 (1 ∷ []) [] 0
+    × Ends (run_on examples.far_pointer (settings_of Oblivious 0 32) [] closed) Descriptors 3
+
+abbrev pub PointerComesBack : Type 0
+PointerComesBack = Ends (small_run examples.there_and_back) (Ended (pos 1)) 7
+
+abbrev pub NullIsFirst : Type 0
+NullIsFirst = Ends (small_run examples.ordering) (Ended (pos 1)) 4
+
+abbrev pub StaticsHoldPointers : Type 0
+StaticsHoldPointers = Ends (small_run examples.holding) (Ended (pos 4)) 8
+
+-- ---- objects
 
 abbrev pub HeapStartsAtItsPlace : Type 0
 HeapStartsAtItsPlace =
-    Gives (small_run first_block (settings_of Oblivious 1 32)) (Ended (pos 0)) 7 (2 ∷ []) [] 0
-    × Gives (small_run first_block (settings_of Oblivious 1 0)) (Ended (pos 0)) 7 (0 ∷ []) [] 0
+    Gives (small_run examples.first_block) (Ended (pos 0)) 7 (2 ∷ []) [] 0
+    × Gives (run_on examples.first_block (settings_of Oblivious 1 0) [] closed) (Ended (pos 0)) 7 (0 ∷ []) [] 0
 
 abbrev pub FreedPlaceIsReused : Type 0
-FreedPlaceIsReused = Gives (small_run reused_block (settings_of Oblivious 1 32)) (Ended (pos 0)) 8 (1 ∷ []) [] 0
+FreedPlaceIsReused = Gives (small_run examples.reused_block) (Ended (pos 0)) 8 (1 ∷ []) [] 0
 
-abbrev pub store_past_end : StrayEvent
-store_past_end = record { line = 1; act = act.Store; object = 1; offset = pos 8; size = 1 }
+abbrev pub ArrayHasItsProduct : Type 0
+ArrayHasItsProduct = Gives (small_run examples.array) (Ended (pos 0)) 7 [] (stray_event 7 act.Store 1 (pos 15) 1 ∷ []) 0
 
-abbrev pub load_past_end : StrayEvent
-load_past_end = record { line = 2; act = act.Load; object = 1; offset = pos 8; size = 1 }
+abbrev pub OtherFreesAreTold : Type 0
+OtherFreesAreTold = Gives (small_run examples.freeing_static) (Ended (pos 0)) 4 [] (stray_event 9 act.Free 1 (pos 0) 0 ∷ []) 0
+
+-- the object's number is that of its ordinal
+abbrev pub LocalIsStoredAndWiped : Type 0
+LocalIsStoredAndWiped = Gives (small_run examples.with_local) (Ended (pos 77)) 11 [] (stray_event 4 act.Store 2 (pos 8) 1 ∷ []) 0
 
 abbrev pub StoreVanishesOrIsKept : Type 0
 StoreVanishesOrIsKept =
-    Gives (small_run past_the_end (settings_of Oblivious 1 32)) (Ended (pos 0)) 8 (0 ∷ []) (store_past_end ∷ load_past_end ∷ []) 1
-    × Gives (small_run past_the_end (settings_of Boundless 1 32)) (Ended (pos 0)) 8 (7 ∷ []) (store_past_end ∷ load_past_end ∷ []) 0
+    Gives (small_run examples.past_the_end) (Ended (pos 0)) 8 (0 ∷ []) (stray_event 1 act.Store 1 (pos 8) 1 ∷ stray_event 2 act.Load 1 (pos 8) 1 ∷ []) 1
+    × Gives (run_on examples.past_the_end (settings_of Boundless 1 32) [] closed) (Ended (pos 0)) 8 (7 ∷ []) (stray_event 1 act.Store 1 (pos 8) 1 ∷ stray_event 2 act.Load 1 (pos 8) 1 ∷ []) 0
+
+-- ---- every run
+
+-- every run begins no more instructions than its bound
+abbrev pub RunsAreBounded : Type 0
+RunsAreBounded =
+    (image : Image) (settings : RunSettings) (cycle : List ℕ) (place : ℕ) (input : List ℕ) (input_end : InputEnd) (steps : ℕ) →
+    flat_instructions image settings cycle place input input_end steps ≤ (length image.code + 1) * (steps + 1)

@@ -1,17 +1,44 @@
-ghost use Rattle.ob_code.specs.Laws.{HelloIsWritten, ReturnPlaceIsCodeLength, EndlessIsSpent, FarPointerHasSlot, HeapStartsAtItsPlace, FreedPlaceIsReused, StoreVanishesOrIsKept};
+ghost use Rattle.ob_code.specs.Laws.{HelloIsWritten, ReturnPlaceIsCodeLength, EndlessIsSpent, TicksTakeSteps, JumpsGoByZero, ArgumentsAndResultArrive, CallReturnsAfterItself, StackHoldsTwoHalves, CharIsSigned, DivisionByZeroEnds, DisplacementsAreExact, InputEnds, FarPointerHasSlot, PointerComesBack, NullIsFirst, StaticsHoldPointers, HeapStartsAtItsPlace, FreedPlaceIsReused, ArrayHasItsProduct, OtherFreesAreTold, LocalIsStoredAndWiped, StoreVanishesOrIsKept, RunsAreBounded};
 
-/// Runs of the machine's definition on small images: output, return place and the bound on instructions.
-pub fn law_plain_runs()
+/// Runs of the machine's definition on small images: steps, jumps, calls and returns.
+pub fn law_control_runs()
     ensures hello { HelloIsWritten }
     ensures return_place { ReturnPlaceIsCodeLength }
     ensures endless { EndlessIsSpent }
+    ensures ticks { TicksTakeSteps }
+    ensures jumps { JumpsGoByZero }
+    ensures arguments { ArgumentsAndResultArrive }
+    ensures links { CallReturnsAfterItself }
+    ensures stack { StackHoldsTwoHalves }
 {}
 
-/// Runs of the machine's definition on small images: out-of-bounds pointers, the heap, and stray accesses
-/// in both modes.
-pub fn law_memory_runs()
-    ensures far_pointer { FarPointerHasSlot }
+/// Runs on small images: numbers, displacements and input.
+pub fn law_number_runs()
+    ensures chars { CharIsSigned }
+    ensures division { DivisionByZeroEnds }
+    ensures displacements { DisplacementsAreExact }
+    ensures input { InputEnds }
+{}
+
+/// Runs on small images: pointers out of bounds, their order, and those that static objects hold.
+pub fn law_pointer_runs()
+    ensures slots { FarPointerHasSlot }
+    ensures back { PointerComesBack }
+    ensures order { NullIsFirst }
+    ensures statics { StaticsHoldPointers }
+{}
+
+/// Runs on small images: the heap, local objects, and stray accesses in both modes.
+pub fn law_object_runs()
     ensures heap { HeapStartsAtItsPlace }
     ensures reuse { FreedPlaceIsReused }
+    ensures array { ArrayHasItsProduct }
+    ensures frees { OtherFreesAreTold }
+    ensures locals { LocalIsStoredAndWiped }
     ensures strays { StoreVanishesOrIsKept }
+{}
+
+/// Every run of every image does at most `(instructions in the code + 1) * (steps + 1)` instructions.
+pub fn law_runs_are_bounded()
+    ensures { RunsAreBounded }
 {}

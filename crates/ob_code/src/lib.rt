@@ -7,7 +7,9 @@
 pub use faults::{BadImage, Part};
 pub use image::{FunctionRow, Image, LocalRow, PointerRow, StaticRow};
 pub use instructions::Instr;
-pub use laws::{law_memory_runs, law_plain_runs};
+pub use laws::{
+    law_control_runs, law_number_runs, law_object_runs, law_pointer_runs, law_runs_are_bounded,
+};
 pub use rows::Rows;
 pub use verified::{Verified, verify};
 

@@ -6,7 +6,9 @@
 
 pub use accesses::{granule_of, inside, size_of_kind};
 pub use endings::Ending;
-pub use laws::{law_bounded_list, law_cells, law_first_fit};
+pub use laws::{
+    law_agreement, law_bounded_list, law_cells, law_first_fit, law_settings, law_status,
+};
 pub use objects::{Entry, Sort};
 pub use settings::{Mode, RunSettings};
 pub use strays::{Act, StrayEvent};

@@ -1,8 +1,8 @@
 -- Conversion gives the one congruent number of the type, and what follows for sums, products and words.
-use Rattle.std.proofs.Common.{◌≡◌, ℕ, ◌-◌, ◌*◌, ◌^◌, ◌<◌, ◌≤◌, Bool, true, false, refl, sym, ap, subst, ◌∙◌, arith, lit<}
+use Rattle.std.proofs.Common.{◌≡◌, ℕ, ◌+◌, ◌-◌, ◌*◌, ◌^◌, ◌<◌, ◌≤◌, Bool, true, false, refl, sym, ap, subst, ◌∙◌, arith, lit<}
 use Rattle.std.specs.Prelude.{ℤ, pos, ◌+ℤ◌, ◌-ℤ◌, ◌*ℤ◌, neg_ℤ, unsigned_abs, nat_lt, if◌then◌else◌}
 use Rattle.std.proofs.lemmas.Int.{ints}
-use Rattle.std.proofs.lemmas.Nat.{pow_pos}
+use Rattle.std.proofs.lemmas.Nat.{pow_pos, pow-add}
 use borrow.Author.Differences.{same_out, sum_is_lem, neg_is}
 use Rattle.ob_words.specs.declared.types.IntType.{IntType}
 use Rattle.ob_words.specs.declared.types.IntType.TheVariants.{Char, SChar, UChar, Short, UShort, Int, UInt, Long, ULong, LLong, ULLong}
@@ -75,6 +75,14 @@ convert_difference t a b = convert_same t (convert t a -ℤ convert t b) (a -ℤ
 
 pub convert_product : (t : IntType) (a b : ℤ) → convert t (convert t a *ℤ convert t b) ≡ convert t (a *ℤ b)
 convert_product t a b = convert_same t (convert t a *ℤ convert t b) (a *ℤ b) (congruent_product (2 ^ width t) (convert t a) a (convert t b) b (convert_congruent t a) (convert_congruent t b))
+
+-- a conversion to a type that isn't narrower changes nothing for a conversion that follows
+pub convert_wider : (t u : IntType) (n : ℤ) → width t ≤ width u → convert t (convert u n) ≡ convert t n
+convert_wider t u n h =
+    let more = width u - width t in
+    let sum : width u ≡ more + width t = omega arith in
+    let modulus : 2 ^ width u ≡ 2 ^ more * 2 ^ width t = ap (λ k. 2 ^ k) sum ∙ pow-add 2 more (width t) in
+    convert_same t (convert u n) n (congruent_coarser (2 ^ width t) (2 ^ width u) (2 ^ more) (convert u n) n modulus (convert_congruent u n))
 
 -- ---- words
 

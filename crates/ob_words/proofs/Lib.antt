@@ -4,6 +4,7 @@ pub mod Conversions
 pub mod Ranges
 pub mod Writes
 pub mod Divisions
+pub mod Bits
 -- What the code computes.
 mod Machine
 mod Operations

@@ -1,14 +1,15 @@
 //! What holds of the definitions alone. Each law is the contract of a function that does nothing.
 
-ghost use Rattle.std.specs.Prelude.{◌≡◌, ◌≢◌, ◌⊎◌, IfOk, IsErr, IsTrue, ◌↔◌, min, max, bit_and, bit_or, bit_xor, int_div, int_rem, ◌≤ℤ◌, ◌<ℤ◌, ◌%◌, All, length, slice_range, ◌+◌, ◌*◌, ◌^◌, ◌<◌, ◌≤◌, ℕ, ℤ, pos, ◌+ℤ◌, ◌-ℤ◌, ◌*ℤ◌, List};
+ghost use Rattle.std.specs.Prelude.{◌≡◌, ◌≢◌, ◌⊎◌, IfOk, IsErr, IsTrue, ◌↔◌, min, max, int_div, int_rem, ◌≤ℤ◌, ◌<ℤ◌, ◌%◌, All, length, slice_range, ◌+◌, ◌*◌, ◌^◌, ◌<◌, ◌≤◌, ℕ, ℤ, pos, ◌+ℤ◌, ◌-ℤ◌, ◌*ℤ◌, List};
 ghost use Rattle.std.specs.Int.{bit_at};
 ghost use Rattle.ob_words.specs.declared.types.IntType.{IntType};
 ghost use Rattle.ob_words.specs.declared.types.IntType.TheVariants.{Int};
 ghost use Rattle.ob_words.specs.Conversion.{convert, IsConversion};
 ghost use Rattle.ob_words.specs.Types.{width, IsNumber, promote};
 ghost use Rattle.ob_words.specs.Fields.{IsByte, field_at, with_field};
-ghost use Rattle.ob_words.specs.Operators.{IsDivision, floor_div, divides, binary};
+ghost use Rattle.ob_words.specs.Operators.{IsDivision, floor_div, divides, exact, binary, bits_of};
 ghost use Rattle.ob_words.specs.declared.types.BinOp.{BinOp};
+ghost use Rattle.ob_words.specs.declared.types.BinOp.TheVariants.{And, Or, Xor};
 ghost use Rattle.ob_words.specs.Words.{word, number};
 
 /// A conversion gives the one number of the type that is congruent to the given number modulo
@@ -17,10 +18,12 @@ pub fn law_convert()
     ensures { (t : IntType) (n : ℤ) → IsConversion t n (convert t n) }
 {}
 
-/// A number of the type stays, so that to convert twice changes nothing more.
+/// A number of the type stays, so that to convert twice changes nothing more; nor does a
+/// conversion to a type that isn't narrower, before another.
 pub fn law_convert_twice()
     ensures own { (t : IntType) (n : ℤ) → IsNumber t n → convert t n ≡ n }
     ensures twice { (t : IntType) (n : ℤ) → convert t (convert t n) ≡ convert t n }
+    ensures wider { (t u : IntType) (n : ℤ) → width t ≤ width u → convert t (convert u n) ≡ convert t n }
 {}
 
 /// To convert the parts of a sum, a difference or a product first changes nothing.
@@ -77,9 +80,9 @@ pub fn law_right_shift()
     ensures high { (z : ℤ) (m : ℕ) → 0 < m → z <ℤ (floor_div z m *ℤ pos m +ℤ pos m) }
 {}
 
-/// `&`, `|` and `^` act on each bit for itself (C99 6.5.10 to 6.5.12).
+/// `&`, `|` and `^` act on each bit of two's complement for itself (C99 6.5.10 to 6.5.12).
 pub fn law_bits()
-    ensures and { (a b i : ℕ) → bit_at (bit_and a b) i ≡ min (bit_at a i) (bit_at b i) }
-    ensures or { (a b i : ℕ) → bit_at (bit_or a b) i ≡ max (bit_at a i) (bit_at b i) }
-    ensures xor { (a b i : ℕ) → bit_at (bit_xor a b) i ≡ (bit_at a i + bit_at b i) % 2 }
+    ensures and { (t : IntType) (a b : ℤ) (i : ℕ) → bit_at (bits_of t (convert t (exact And t a b))) i ≡ min (bit_at (bits_of t a) i) (bit_at (bits_of t b) i) }
+    ensures or { (t : IntType) (a b : ℤ) (i : ℕ) → bit_at (bits_of t (convert t (exact Or t a b))) i ≡ max (bit_at (bits_of t a) i) (bit_at (bits_of t b) i) }
+    ensures xor { (t : IntType) (a b : ℤ) (i : ℕ) → bit_at (bits_of t (convert t (exact Xor t a b))) i ≡ (bit_at (bits_of t a) i + bit_at (bits_of t b) i) % 2 }
 {}

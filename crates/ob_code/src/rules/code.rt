@@ -97,62 +97,39 @@ fn operands_are_sound(image: &Image, f: usize, instr: Instr) -> bool
     let words = row.words;
     match instr {
         Instr::Tick => true,
-        Instr::Set { a, imm: _ } => is_written(words, a),
-        Instr::Move { a, b } => writes_of_two(words, a, b),
-        Instr::Convert { kind: _, a, b } => writes_of_two(words, a, b),
-        Instr::Binary {
-            kind: _,
-            operator: _,
-            a,
-            b,
-            c,
-        } => writes_of_three(words, a, b, c),
-        Instr::Compare {
-            kind: _,
-            relation: _,
-            a,
-            b,
-            c,
-        } => writes_of_three(words, a, b, c),
+        Instr::Set { a, .. } | Instr::GetChar { a } => is_written(words, a),
+        Instr::Move { a, b } | Instr::Convert { a, b, .. } => writes_of_two(words, a, b),
+        Instr::PutChar { a, b } | Instr::Malloc { a, b } => writes_of_two(words, a, b),
+        Instr::Binary { a, b, c, .. } | Instr::Compare { a, b, c, .. } => writes_of_three(
+            words, a, b, c,
+        ),
+        Instr::Load { a, b, c, .. } | Instr::Shift { a, b, c } => writes_of_three(words, a, b, c),
+        Instr::Same { a, b, c } | Instr::Calloc { a, b, c } => writes_of_three(words, a, b, c),
+        Instr::Store { a, b, c, .. } => a < words && b < words && c < words,
+        Instr::Return { b } | Instr::Free { b, .. } | Instr::Exit { b } => b < words,
         Instr::Jump { imm } => is_place_of(image, f, imm),
         Instr::JumpZero { b, imm } => b < words && is_place_of(image, f, imm),
         Instr::JumpNonzero { b, imm } => b < words && is_place_of(image, f, imm),
         Instr::Call { a, b, imm } => writes_of_two(words, a, b) && is_call(image, words, b, imm),
-        Instr::Return { b } => b < words,
-        Instr::Static { a, imm } => is_written(words, a)
-            && is_between(1, image.statics.as_slice().len(), imm),
-        Instr::Local { a, imm } => is_written(words, a)
-            && is_below(row.locals.as_slice().len(), imm),
+        Instr::Static { a, imm } => {
+            is_written(words, a) && is_between(1, image.statics.as_slice().len(), imm)
+        }
+        Instr::Local { a, imm } => {
+            is_written(words, a) && is_below(row.locals.as_slice().len(), imm)
+        }
         Instr::Wipe { imm } => is_below(row.locals.as_slice().len(), imm),
-        Instr::Load {
-            kind: _,
-            line: _,
-            a,
-            b,
-            c,
-        } => writes_of_three(words, a, b, c),
-        Instr::Store {
-            kind: _,
-            line: _,
-            a,
-            b,
-            c,
-        } => a < words && b < words && c < words,
-        Instr::Slide { a, b, c, imm } => writes_of_three(words, a, b, c)
-            && imm.unsigned_abs() <= 4_194_304,
-        Instr::SlideBy { a, b, imm } => writes_of_two(words, a, b) && is_between(0, 4_194_304, imm),
-        Instr::Shift { a, b, c } => writes_of_three(words, a, b, c),
-        Instr::Same { a, b, c } => writes_of_three(words, a, b, c),
-        Instr::Order { relation, a, b, c } => writes_of_three(words, a, b, c)
-            && is_ordering(relation),
-        Instr::Difference { a, b, c, imm } => writes_of_three(words, a, b, c)
-            && is_between(1, 4_194_304, imm),
-        Instr::GetChar { a } => is_written(words, a),
-        Instr::PutChar { a, b } => writes_of_two(words, a, b),
-        Instr::Malloc { a, b } => writes_of_two(words, a, b),
-        Instr::Calloc { a, b, c } => writes_of_three(words, a, b, c),
-        Instr::Free { line: _, b } => b < words,
-        Instr::Exit { b } => b < words,
+        Instr::Slide { a, b, c, imm } => {
+            writes_of_three(words, a, b, c) && imm.unsigned_abs() <= 4_194_304
+        }
+        Instr::SlideBy { a, b, imm } => {
+            writes_of_two(words, a, b) && is_between(0, 4_194_304, imm)
+        }
+        Instr::Order { relation, a, b, c } => {
+            writes_of_three(words, a, b, c) && is_ordering(relation)
+        }
+        Instr::Difference { a, b, c, imm } => {
+            writes_of_three(words, a, b, c) && is_between(1, 4_194_304, imm)
+        }
     }
 }
 
@@ -160,7 +137,7 @@ fn is_last(instr: Instr) -> bool
     ensures { IsTrue result ↔ IsLast instr }
 {
     match instr {
-        Instr::Jump { imm: _ } | Instr::Return { b: _ } | Instr::Exit { b: _ } => true,
+        Instr::Jump { .. } | Instr::Return { .. } | Instr::Exit { .. } => true,
         _ => false,
     }
 }
@@ -170,8 +147,7 @@ fn is_built(instr: Instr) -> bool
     ensures { IsTrue result ↔ IsBuilt instr }
 {
     match instr {
-        Instr::Static { a: _, imm: _ } | Instr::Local { a: _, imm: _ } | Instr::Wipe { imm: _ } =>
-            false,
+        Instr::Static { .. } | Instr::Local { .. } | Instr::Wipe { .. } => false,
         Instr::Load { .. } | Instr::Store { .. } | Instr::Shift { .. } | Instr::Same { .. } =>
             false,
         Instr::Order { .. } | Instr::Difference { .. } => false,

@@ -1,11 +1,11 @@
-use Rattle.std.proofs.lemmas.Nat.Bits.{bit_at_and, bit_at_or, bit_at_xor}
+use Rattle.ob_words.proofs.Bits.{and_bits, or_bits, xor_bits}
 use Rattle.ob_words.proofs.laws.law_bits.Goals as goal
 
 pub returns-clause-and : goal.returns-clause-and
-returns-clause-and c = bit_at_and
+returns-clause-and c = and_bits
 
 pub returns-clause-or : goal.returns-clause-or
-returns-clause-or c = bit_at_or
+returns-clause-or c = or_bits
 
 pub returns-clause-xor : goal.returns-clause-xor
-returns-clause-xor c = bit_at_xor
+returns-clause-xor c = xor_bits

@@ -1,0 +1,131 @@
+-- What a table keeps while a pair enters and while an object's pairs leave.
+use Rattle.std.proofs.Common.{◌≡◌, ◌==◌, ℕ, suc, ◌<◌, ◌⊎◌, Bool, true, false, List, length, get_or, set, [], ◌∷◌, arith, Option, Some, None, ap, ⊎_elim, inl, inr, sym, ◌∙◌, get_or-set_same, get_or-set_other, refl, if◌then◌else◌}
+use Rattle.std.proofs.lemmas.Bool.{cases_eq, cases_Bool, both_ways, eq-eqb, ne_eqb, cond-true, cond-false}
+use Rattle.std.proofs.Math.ListN.{get_or-map}
+use Rattle.ob_away.specs.Slots.{Pair, Slots, IsInterned, holds, is_of, slot_of, pair_in, without}
+use Rattle.ob_away.specs.Kept.{Index, named, mark_of, free_below, IsIndexed, IsMarked}
+use Rattle.ob_away.proofs.Positions.{none_before}
+use Rattle.ob_away.proofs.Pairs.{within_slots, same_pair-same}
+
+-- slots that read the same
+pub IsInterned-same : (slots others : Slots) → ((k : ℕ) → pair_in others k ≡ pair_in slots k) → IsInterned slots → IsInterned others
+IsInterned-same slots others same interned i j pair at_i at_j = interned i j pair (sym (same i) ∙ at_i) (sym (same j) ∙ at_j)
+
+pub IsIndexed-same : (index : Index) (slots others : Slots) → ((k : ℕ) → pair_in others k ≡ pair_in slots k) → IsIndexed index slots → IsIndexed index others
+IsIndexed-same index slots others same indexed = record { by_slot = λ k pair held. indexed.by_slot k pair (sym (same k) ∙ held) }
+
+pub IsMarked-same : (marks : List Bool) (slots others : Slots) → ((k : ℕ) → pair_in others k ≡ pair_in slots k) → IsMarked marks slots → IsMarked marks others
+IsMarked-same marks slots others same marked k pair held = marked k pair (sym (same k) ∙ held)
+
+-- after a pair was put into slot s, a slot that holds a pair is slot s or held it before
+pub entered : (slots : Slots) (s : ℕ) (pair : Pair) (k : ℕ) (other : Pair) → s < length slots → pair_in (set slots s (Some pair)) k ≡ Some other → ((k ≡ s) × (other ≡ pair)) ⊎ (pair_in slots k ≡ Some other)
+entered slots s pair k other within held =
+    ⊎_elim
+    (λ same. inl (same, (let e : Some other ≡ Some pair = sym held ∙ ap (pair_in (set slots s (Some pair))) same ∙ get_or-set_same slots s (Some pair) None within in cc)))
+    (λ apart. inr (sym (get_or-set_other slots s k (Some pair) None apart) ∙ held))
+    (cases_eq k s)
+
+unlisted : (slots : Slots) (pair : Pair) (k : ℕ) → slot_of slots pair ≡ None → pair_in slots k ≡ Some pair → ⊥
+unlisted slots pair k absent held =
+    both_ways (holds pair (pair_in slots k))
+    (none_before (holds pair) slots None absent k (within_slots slots k pair held))
+    (ap (holds pair) held ∙ same_pair-same pair)
+
+pub IsInterned-entered : (slots : Slots) (s : ℕ) (pair : Pair) → s < length slots → slot_of slots pair ≡ None → IsInterned slots → IsInterned (set slots s (Some pair))
+IsInterned-entered slots s pair within absent interned i j other at_i at_j =
+    ⊎_elim
+    (λ here. ⊎_elim
+    (λ there. here.0 ∙ sym there.0)
+    (λ there. absurd (unlisted slots pair j absent (there ∙ ap Some here.1)))
+    (entered slots s pair j other within at_j))
+    (λ here. ⊎_elim
+    (λ there. absurd (unlisted slots pair i absent (here ∙ ap Some there.1)))
+    (λ there. interned i j other here there)
+    (entered slots s pair j other within at_j))
+    (entered slots s pair i other within at_i)
+
+pub IsIndexed-entered : (index : Index) (slots : Slots) (s : ℕ) (pair : Pair) → s < length slots → named index pair ≡ Some s → IsIndexed index slots → IsIndexed index (set slots s (Some pair))
+IsIndexed-entered index slots s pair within at_s indexed = record {
+  by_slot = λ k other held.
+      ⊎_elim
+      (λ here. ap (named index) here.1 ∙ at_s ∙ ap Some (sym here.0))
+      (λ before. indexed.by_slot k other before)
+      (entered slots s pair k other within held);
+}
+
+pub IsMarked-entered : (marks : List Bool) (slots : Slots) (s : ℕ) (pair : Pair) → s < length slots → mark_of pair.0 < length marks → IsMarked marks slots → IsMarked (set marks (mark_of pair.0) true) (set slots s (Some pair))
+IsMarked-entered marks slots s pair within long marked k other held =
+    ⊎_elim
+    (λ same. ap (λ i. get_or (set marks (mark_of pair.0) true) i false) same ∙ get_or-set_same marks (mark_of pair.0) true false long)
+    (λ apart. get_or-set_other marks (mark_of pair.0) (mark_of other.0) true false apart ∙
+    ⊎_elim
+    (λ here. absurd (apart (ap (λ (p : Pair). mark_of p.0) here.1)))
+    (λ before. marked k other before)
+    (entered slots s pair k other within held))
+    (cases_eq (mark_of other.0) (mark_of pair.0))
+
+-- what a slot holds once an object's slots are freed
+kept_some : (object : ℕ) (slot : Option Pair) (pair : Pair) → (if is_of object slot then None else slot) ≡ Some pair → (slot ≡ Some pair) × (object ≡ pair.0 → ⊥)
+kept_some object None pair is = absurd cc
+kept_some object (Some other) pair is =
+    ⊎_elim
+    (λ own. absurd (let e : None ≡ Some pair = sym (cond-true (object == other.0) None (Some other) own) ∙ is in cc))
+    (λ foreign.
+    let same : Some other ≡ Some pair = sym (cond-false (object == other.0) None (Some other) foreign) ∙ is in
+    let e : other ≡ pair = cc in
+    (same, (λ owner. both_ways (object == other.0) foreign (eq-eqb object other.0 (owner ∙ ap (λ (p : Pair). p.0) (sym e))))))
+    (cases_Bool (object == other.0))
+
+pair_in-without : (object : ℕ) (slots : Slots) (k : ℕ) → pair_in (without object slots) k ≡ (if is_of object (pair_in slots k) then None else pair_in slots k)
+pair_in-without object slots k = get_or-map (λ slot. if is_of object slot then None else slot) slots k None
+
+pub held_without : (object : ℕ) (slots : Slots) (k : ℕ) (pair : Pair) → pair_in (without object slots) k ≡ Some pair → (pair_in slots k ≡ Some pair) × (object ≡ pair.0 → ⊥)
+held_without object slots k pair held = kept_some object (pair_in slots k) pair (sym (pair_in-without object slots k) ∙ held)
+
+pub IsInterned-without : (object : ℕ) (slots : Slots) → IsInterned slots → IsInterned (without object slots)
+IsInterned-without object slots interned i j pair at_i at_j = interned i j pair (held_without object slots i pair at_i).0 (held_without object slots j pair at_j).0
+
+pub IsIndexed-without : (object : ℕ) (index : Index) (slots : Slots) → IsIndexed index slots → IsIndexed index (without object slots)
+IsIndexed-without object index slots indexed = record { by_slot = λ k pair held. indexed.by_slot k pair (held_without object slots k pair held).0 }
+
+without-none : (object : ℕ) (slots : Slots) → ((k : ℕ) (pair : Pair) → pair_in slots k ≡ Some pair → object ≡ pair.0 → ⊥) → without object slots ≡ slots
+without-none object [] none = refl
+without-none object (None ∷ slots) none = ap (λ (xs : Slots). None ∷ xs) (without-none object slots (λ k pair held owner. none (suc k) pair held owner))
+without-none object (Some other ∷ slots) none =
+    let foreign : (object == other.0) ≡ false = ne_eqb object other.0 (λ owner. none 0 other refl owner) in
+    ap (λ (slot : Option Pair). slot ∷ without object slots) (cond-false (object == other.0) None (Some other) foreign)
+    ∙ ap (λ (xs : Slots). Some other ∷ xs) (without-none object slots (λ k pair held owner. none (suc k) pair held owner))
+
+-- an object that is not marked has no pair
+pub without-unmarked : (marks : List Bool) (object : ℕ) (slots : Slots) → IsMarked marks slots → get_or marks (mark_of object) false ≡ false → without object slots ≡ slots
+without-unmarked marks object slots marked unmarked =
+    without-none object slots (λ k pair held owner.
+    both_ways (get_or marks (mark_of object) false) unmarked
+    (ap (λ o. get_or marks (mark_of o) false) owner ∙ marked k pair held))
+
+-- the object's mark is set anew, to whether a pair stands that shares it
+pub IsMarked-without : (marks : List Bool) (object : ℕ) (slots : Slots) (shared : Bool) → mark_of object < length marks → IsMarked marks slots → (shared ≡ false → (k : ℕ) (pair : Pair) → pair_in (without object slots) k ≡ Some pair → mark_of pair.0 ≡ mark_of object → ⊥) → IsMarked (set marks (mark_of object) shared) (without object slots)
+IsMarked-without marks object slots shared long marked alone k pair held =
+    ⊎_elim
+    (λ same. ap (λ i. get_or (set marks (mark_of object) shared) i false) same ∙ get_or-set_same marks (mark_of object) shared false long ∙
+    ⊎_elim
+    (λ yes. yes)
+    (λ no. absurd (alone no k pair held same))
+    (cases_Bool shared))
+    (λ apart. get_or-set_other marks (mark_of object) (mark_of pair.0) shared false apart ∙ marked k pair (held_without object slots k pair held).0)
+    (cases_eq (mark_of pair.0) (mark_of object))
+
+pub mark_of-below : (object : ℕ) → mark_of object < 65536
+mark_of-below object = omega arith
+
+pub IsInterned-none : (slots : Slots) → slots ≡ [] → IsInterned slots
+IsInterned-none slots none i j pair at_i at_j = absurd (omega (arith, within_slots slots i pair at_i, ap length none))
+
+pub IsIndexed-none : (index : Index) (slots : Slots) → slots ≡ [] → IsIndexed index slots
+IsIndexed-none index slots none = record { by_slot = λ k pair held. absurd (omega (arith, within_slots slots k pair held, ap length none)) }
+
+pub IsMarked-none : (marks : List Bool) (slots : Slots) → slots ≡ [] → IsMarked marks slots
+IsMarked-none marks slots none k pair held = absurd (omega (arith, within_slots slots k pair held, ap length none))
+
+pub free_below-none : (slots : Slots) → slots ≡ [] → free_below slots (length slots) ≡ []
+free_below-none slots none = ap (λ (xs : Slots). free_below xs (length xs)) none

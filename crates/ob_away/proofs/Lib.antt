@@ -1,0 +1,6 @@
+pub mod Positions
+pub mod Pairs
+pub mod Names
+pub mod FreeList
+pub mod Vacant
+pub mod Changes

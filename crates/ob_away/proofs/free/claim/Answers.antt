@@ -1,0 +1,32 @@
+use Rattle.std.proofs.Common.{◌≡◌, None, Some, arith, sym, ap, ◌∙◌}
+use Rattle.ob_away.specs.Slots.{vacant}
+use Rattle.ob_away.proofs.FreeList.{vacant-empty, IfNone-from}
+use Rattle.ob_away.proofs.Vacant.{pair_count-vacant, extended-count, extended-put, extended-listed, IfSome-map}
+use Rattle.ob_away.proofs.free.claim.Goals as goal
+
+pub returns-in-Some-clause-count : goal.returns-in-Some-clause-count
+returns-in-Some-clause-count c =
+    let found : vacant c.args.slots.now.items ≡ Some c.in-Some.slot = sym (c.in-Some.ensures.slot ∙ ap vacant c.deref.ensures.value) in
+    omega (arith, pair_count-vacant c.args.slots.now.items c.in-Some.slot found, c.requires.within)
+
+pub returns-clause-count : goal.returns-clause-count
+returns-clause-count c =
+    let none : vacant c.args.slots.now.items ≡ None = sym (c.in_default.ensures.slot ∙ ap vacant c.deref.ensures.value) in
+    extended-count c.args.limit c.args.slots.now.items c.extend.new.slots.items none c.extend.result c.extend.ensures.slot
+
+pub returns-clause-put : goal.returns-clause-put
+returns-clause-put c =
+    let none : vacant c.args.slots.now.items ≡ None = sym (c.in_default.ensures.slot ∙ ap vacant c.deref.ensures.value) in
+    extended-put c.args.limit c.args.slots.now.items c.extend.new.slots.items none c.extend.result c.extend.ensures.slot c.extend.ensures.slots
+
+pub returns-clause-listed : goal.returns-clause-listed
+returns-clause-listed c =
+    let none : vacant c.args.slots.now.items ≡ None = sym (c.in_default.ensures.slot ∙ ap vacant c.deref.ensures.value) in
+    IfSome-map _ _ c.extend.result
+    (λ slot used pair. c.in_default.ensures.none ∙ sym (used pair))
+    (extended-listed c.args.limit c.args.slots.now.items c.extend.new.slots.items none c.extend.result c.extend.ensures.slot c.extend.ensures.slots)
+
+pub returns-clause-unlisted : goal.returns-clause-unlisted
+returns-clause-unlisted c =
+    let none : vacant c.args.slots.now.items ≡ None = sym (c.in_default.ensures.slot ∙ ap vacant c.deref.ensures.value) in
+    IfNone-from c.extend.result (c.in_default.ensures.none ∙ sym (vacant-empty c.args.slots.now.items none))

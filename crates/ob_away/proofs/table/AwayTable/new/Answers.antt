@@ -1,0 +1,25 @@
+use Rattle.std.proofs.Common.{length, ap, sym, ◌∙◌, arith}
+use Rattle.std.proofs.lemmas.Grind.{common_steps}
+use Rattle.ob_away.specs.Slots.{Descriptors, Slots}
+use Rattle.ob_away.proofs.Changes.{IsInterned-none, IsIndexed-none, IsMarked-none, free_below-none}
+use Rattle.ob_away.proofs.table.AwayTable.new.Goals as goal
+
+pub invariant_of-result : goal.invariant_of-result
+invariant_of-result c =
+    let slots = c.in_ok-with_capacity.ensures.items in
+    record {
+      within = omega (arith, ap length slots);
+      interned = IsInterned-none c.in_ok-with_capacity.field-0.items slots;
+      indexed = IsIndexed-none c.in_ok-with_capacity-3.field-0 c.in_ok-with_capacity.field-0.items slots;
+      listed = c.in_ok-with_capacity-2.ensures.items ∙ sym (free_below-none c.in_ok-with_capacity.field-0.items slots);
+      marked = IsMarked-none c.in_ok-vec.field-0.items c.in_ok-with_capacity.field-0.items slots;
+      marks_long = grind (arith, common_steps, c.in_ok-vec.ensures.len);
+      roomy = omega (arith, c.in_ok-with_capacity-3.ensures.spare);
+      slots_fit = omega (arith, c.in_ok-with_capacity.ensures.capacity);
+      free_fit = omega (arith, c.in_ok-with_capacity-2.ensures.capacity);
+    }
+
+pub returns : goal.returns
+returns c =
+    let table : Slots → Descriptors = λ xs. record { limit = c.args.limit; slots = xs } in
+    ap table c.in_ok-with_capacity.ensures.items

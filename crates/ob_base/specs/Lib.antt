@@ -1,0 +1,4 @@
+pub mod Faults
+pub mod Sink
+pub mod Folder
+pub mod Memory

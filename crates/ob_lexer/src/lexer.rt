@@ -1,0 +1,48 @@
+ghost use Rattle.std.specs.Prelude.{◌≡◌, ℕ, ◌≤◌, ◌^◌, length, List, MatchResult, ◌⊎◌};
+ghost use Rattle.ob_tree.specs.declared.tokens.Token.{Token};
+ghost use Rattle.ob_tree.specs.declared.faults.LexKind.{LexKind};
+ghost use Rattle.ob_lexer.specs.Texts.{Spells, StopsAt, HasLexFault, fault_of};
+
+use crate::bytes::{front, skip};
+use crate::place::Place;
+use crate::scanner::scan;
+use ob_tree::{LexFault, Token};
+use std::alloc::Global;
+
+/// Reads a source text of at most 2^20 bytes as tokens (C99 6.4): each is the longest that is possible
+/// at its place. `Ok` has the tokens among the pieces of the text, in order, with their places. The
+/// faults have the first place at which no token or space can be taken, as a number of bytes from the
+/// text's begin: `Unclosed` where a comment, string or character constant begins there and doesn't end,
+/// else `Wide` where an integer constant or a numeric escape there is too great, else `Stray`.
+/// `NoMemory` may come for want of memory. The time is linear in the text's length.
+pub fn lex(alloc: Global, bytes: &[u8]) -> Result<Vec<Token>, LexFault>
+    requires { length bytes.now ≤ 2 ^ 20 }
+    ensures right { MatchResult result (λ tokens. Spells tokens.items bytes.now) (HasLexFault bytes.now) }
+    ensures spelled { (ts : List Token) → Spells ts bytes.now
+        → MatchResult result (λ tokens. tokens.items ≡ ts) (λ fault. fault ≡ LexFault.NoMemory) }
+    ensures faulty { (kind : LexKind) (at : ℕ) → StopsAt bytes.now kind at
+        → MatchResult result (λ _. ⊥) (λ fault. (fault ≡ fault_of kind at) ⊎ (fault ≡ LexFault.NoMemory)) }
+{
+    let mut tokens = Vec::new(alloc);
+    let mut place = Place::start();
+    while place.at < bytes.len() {
+        let rest = skip(bytes, place.at);
+        match scan(alloc, place.fresh, rest) {
+            Err(refusal) => return Err(place.fault(refusal)),
+            Ok(taken) => {
+                let after = place.past(front(rest, taken.length));
+                place.push(&mut tokens, after.at, taken.kind)?;
+                place = after;
+            }
+        }
+    }
+    Ok(tokens)
+}
+
+/// The law that a text has one outcome: at most one list of tokens spells it, a text that tokens spell
+/// has no fault, and a text has at most one fault.
+pub fn law_one_reading()
+    ensures one_spelling { (text : List ℕ) (ts us : List Token) → Spells ts text → Spells us text → ts ≡ us }
+    ensures no_fault { (text : List ℕ) (ts : List Token) (kind : LexKind) (at : ℕ) → Spells ts text → StopsAt text kind at → ⊥ }
+    ensures one_fault { (text : List ℕ) (k l : LexKind) (i j : ℕ) → StopsAt text k i → StopsAt text l j → (k ≡ l) × (i ≡ j) }
+{}

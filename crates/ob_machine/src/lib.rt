@@ -1,0 +1,10 @@
+//! The machine that runs compiled code, and the code of the sources that are run so far. Stands on
+//! `ob_base` for the sink, on `ob_tree` for the source, and on `ob_words` for the arithmetic.
+#![tactic(auto)]
+
+pub use first::{FirstEnd, FirstInstr, lower_first, run_code};
+
+mod first;
+mod output;
+#[cfg(test)]
+mod tests;

@@ -1,0 +1,5 @@
+pub mod Status
+pub mod Job
+pub mod Lines
+pub mod Run
+pub mod Answer

@@ -1,0 +1,66 @@
+-- When each answer of the program comes, by its words and by what its devices tell.
+use Rattle.std.specs.Prelude.{◌≡◌, ℕ, ◌<◌, ◌≤◌, ◌⊎◌, List, [], length, ⊤, Option, Some, None, IsSomeAnd}
+use Rattle.std.specs.FinMap.{get}
+use Rattle.std.specs.Io.KnownBytes.{append_known}
+use Rattle.ob_base.specs.Faults.{NoFault}
+use Rattle.ob_base.specs.Sink.{Tally, TakesPrefix}
+use Rattle.ob_base.specs.Folder.{Files, IsMissing}
+use Rattle.ob_tree.specs.declared.first.First.{First}
+use Rattle.ob_tree.specs.First.{IsFirstText}
+use Rattle.ob_words.specs.Conversion.{residue}
+use Rattle.ob_machine.specs.First.{printed, sum_value}
+use Rattle.ob_program.specs.Job.{job_of}
+use Rattle.ob_program.specs.Lines.{usage_line, file_fault_line, file_long_line, not_yet_line}
+
+-- the most bytes that a source has: a mebibyte
+abbrev pub most_source_bytes : ℕ
+most_source_bytes = 1048576
+
+-- the folder tells its files
+abbrev pub TellsFiles : Option Files → Type 0
+TellsFiles None = ⊥
+TellsFiles (Some files) = ⊤
+
+-- the folder tells a file of this name, and its bytes have P
+abbrev pub HasFile : Option Files → List ℕ → (List ℕ → Type 0) → Type 0
+HasFile None name P = ⊥
+HasFile (Some files) name P = IsSomeAnd (get files name) P
+
+-- the words name a file that the folder tells, and its bytes have P
+abbrev pub NamesFile : List (List ℕ) → Option Files → (List ℕ → Type 0) → Type 0
+NamesFile words files P = IsSomeAnd (job_of words) (λ name. HasFile files name P)
+
+-- the file is too long for a source
+abbrev pub IsLong : List (List ℕ) → Option Files → Type 0
+IsLong words files = NamesFile words files (λ bytes. most_source_bytes < length bytes)
+
+-- the file is short enough, and is the text of p
+abbrev pub IsSource : List (List ℕ) → Option Files → First → Type 0
+IsSource words files p = NamesFile words files (λ bytes. (length bytes ≤ most_source_bytes) × IsFirstText p bytes)
+
+-- the file is short enough, and is no text that can be compiled yet
+abbrev pub IsOther : List (List ℕ) → Option Files → Type 0
+IsOther words files = NamesFile words files (λ bytes. (length bytes ≤ most_source_bytes) × ((p : First) → ¬ IsFirstText p bytes))
+
+-- the words name a file that the folder doesn't have
+abbrev pub NamesNone : List (List ℕ) → Option Files → Type 0
+NamesNone words files = IsSomeAnd (job_of words) (IsMissing files)
+
+-- a source ended with this status, after all that it prints was written
+pub record Ran (words : List (List ℕ)) (files : Option Files) (status : ℕ) (taken_before taken_now : Option (List ℕ)) : Type 0 where
+  pub source : First
+  pub is_source : IsSource words files source
+  pub status_is : status ≡ residue 128 (sum_value source.result)
+  pub written : taken_now ≡ append_known taken_before (printed source)
+
+-- a status that any other gives way to: of a failed write, and of want of memory
+abbrev pub GivesWay : ℕ → Type 0
+GivesWay status = (status ≡ 143) ⊎ (status ≡ 144)
+
+-- the error sink took a prefix of the line that was to be written to it: of the usage line for words that ask for nothing, of the line of the answer where there was no run, of nothing where there was one
+pub record TakesPrefixOfLine (words : List (List ℕ)) (files : Option Files) (folder_before folder_now : ℕ) (taken_before taken_now : Option (List ℕ)) (tally_before tally_now : Option Tally) : Type 0 where
+  pub usage : job_of words ≡ None → TakesPrefix taken_before taken_now tally_before tally_now usage_line
+  pub missing : NamesNone words files → TakesPrefix taken_before taken_now tally_before tally_now file_fault_line
+  pub long : IsLong words files → NoFault folder_before folder_now → TakesPrefix taken_before taken_now tally_before tally_now file_long_line
+  pub other : IsOther words files → NoFault folder_before folder_now → (TakesPrefix taken_before taken_now tally_before tally_now not_yet_line)
+  pub source : (p : First) → IsSource words files p → NoFault folder_before folder_now → TakesPrefix taken_before taken_now tally_before tally_now []

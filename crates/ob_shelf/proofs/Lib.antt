@@ -1,0 +1,5 @@
+pub mod Order
+pub mod FirstGap
+pub mod Edits
+pub mod Taken
+pub mod HintsHold
