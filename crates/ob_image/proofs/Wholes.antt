@@ -1,0 +1,212 @@
+-- Which image the bytes spell, and where the first wrong byte stands.
+use Rattle.std.proofs.Common.{◌≡◌, ℕ, suc, ◌+◌, ◌-◌, ◌<◌, ◌≤◌, List, [], ◌∷◌, ◌++◌, length, take, drop, Result, Ok, Err, refl, sym, ap, subst, ◌∙◌, append_assoc, arith}
+use Rattle.std.proofs.lemmas.List.{append-nil, take_at, length-append, take-append-drop}
+use Rattle.std.proofs.lemmas.Bool.{cases_lt, ne_eqb}
+use Rattle.std.proofs.Common.{inl, inr, get_or}
+use Rattle.ob_words.specs.Fields.{low_bytes}
+use Rattle.ob_code.specs.declared.image.Image.{Image}
+use Rattle.ob_image.specs.Faults.{Spells, IsBegun, IsFirstWrong, Reads}
+use Rattle.ob_image.specs.Layout.{any_word, spell_instruction, IsInstruction}
+use Rattle.ob_image.specs.Reading.{gives, exactly, counted, static_row, pointer_row, function_row, instruction_row, image_parts, image_of, ended}
+use Rattle.ob_image.specs.Spelling.{head, spell_static, spell_pointer, spell_function, spell_rows, spell_image, AreRows, IsStatic, IsPointer, IsFunction, IsImage}
+use Rattle.ob_image.proofs.Readers.{IsBytes, IsBytes-append, IsBytes-front, IsReader, then_reader, gives_reader, exactly_reader, number_reader, counted_reader, done, ok_is, found, stuck, answered}
+use Rattle.ob_image.proofs.RowLaws.{word_spelled, exactly_spelled, static_reader, static_spelled, pointer_reader, pointer_spelled, function_reader, function_spelled, instruction_reader, instruction_spelled}
+use Rattle.ob_image.proofs.Spellings.{IsSpelled, then_sound, then_again, along, counted_spelled}
+
+abbrev told : Image → Result Image ℕ
+told x = Ok x
+
+abbrev failed : ℕ → Result Image ℕ
+failed left = Err left
+
+head_bytes : IsBytes head
+head_bytes = (omega arith, (omega arith, (omega arith, (omega arith, (omega arith, (omega arith, (omega arith, (omega arith, tt))))))))
+
+head_spelled : IsSpelled (exactly head) (λ xs. xs ≡ head) (λ xs. xs)
+head_spelled = exactly_spelled head head_bytes
+
+statics_spelled : IsSpelled (counted 262144 static_row) (AreRows 262144 IsStatic) (spell_rows spell_static)
+statics_spelled = counted_spelled 262144 static_row IsStatic spell_static (omega arith) static_spelled
+
+pointers_spelled : IsSpelled (counted 524288 pointer_row) (AreRows 524288 IsPointer) (spell_rows spell_pointer)
+pointers_spelled = counted_spelled 524288 pointer_row IsPointer spell_pointer (omega arith) pointer_spelled
+
+functions_spelled : IsSpelled (counted 65536 function_row) (AreRows 65536 IsFunction) (spell_rows spell_function)
+functions_spelled = counted_spelled 65536 function_row IsFunction spell_function (omega arith) function_spelled
+
+code_spelled : IsSpelled (counted 1048576 instruction_row) (AreRows 1048576 IsInstruction) (spell_rows spell_instruction)
+code_spelled = counted_spelled 1048576 instruction_row IsInstruction spell_instruction (omega arith) instruction_spelled
+
+image_reader : IsReader image_parts
+unfolding image_parts
+image_reader =
+    then_reader (exactly_reader head head_bytes) (λ first.
+    then_reader (counted_reader 262144 static_row static_reader) (λ statics. then_reader (counted_reader 524288 pointer_row pointer_reader) (λ pointers.
+    then_reader (counted_reader 65536 function_row function_reader) (λ functions. then_reader (number_reader 4 any_word) (λ main.
+    then_reader (counted_reader 1048576 instruction_row instruction_reader) (λ code.
+    gives_reader (record { statics = statics; pointers = pointers; functions = functions; main = main; code = code })))))))
+
+regroup_image : (x : Image) (rest : List ℕ) → spell_image x ++ rest
+    ≡ head ++ (spell_rows spell_static x.statics ++ (spell_rows spell_pointer x.pointers ++ (spell_rows spell_function x.functions ++ (low_bytes 4 x.main ++ (spell_rows spell_instruction x.code ++ rest)))))
+unfolding spell_image
+regroup_image x rest = simp append_assoc
+
+image_text : (x : Image) (bytes p q r s t rest : List ℕ) → bytes ≡ head ++ p → p ≡ spell_rows spell_static x.statics ++ q → q ≡ spell_rows spell_pointer x.pointers ++ r
+    → r ≡ spell_rows spell_function x.functions ++ s → s ≡ low_bytes 4 x.main ++ t → t ≡ spell_rows spell_instruction x.code ++ rest → bytes ≡ spell_image x ++ rest
+image_text x bytes p q r s t rest h a b c d e =
+    h ∙ along head p _ (a ∙ along (spell_rows spell_static x.statics) q _ (b ∙ along (spell_rows spell_pointer x.pointers) r _ (c ∙ along (spell_rows spell_function x.functions) s _
+    (d ∙ along (low_bytes 4 x.main) t _ e)))) ∙ sym (regroup_image x rest)
+
+image_sound : (bytes : List ℕ) (x : Image) (rest : List ℕ) → IsBytes bytes → image_parts bytes ≡ Ok (x, rest) → IsImage x × (bytes ≡ spell_image x ++ rest)
+unfolding image_parts gives
+image_sound bytes x rest fits e =
+    let h = then_sound head_spelled bytes x rest fits e in
+    let a = then_sound statics_spelled h.middle x rest h.are_bytes h.goes in
+    let b = then_sound pointers_spelled a.middle x rest a.are_bytes a.goes in
+    let c = then_sound functions_spelled b.middle x rest b.are_bytes b.goes in
+    let d = then_sound word_spelled c.middle x rest c.are_bytes c.goes in
+    let f = then_sound code_spelled d.middle x rest d.are_bytes d.goes in
+    let image : Image = record { statics = a.value; pointers = b.value; functions = c.value; main = d.value; code = f.value } in
+    subst (λ (p : Image × List ℕ). IsImage p.0 × (bytes ≡ spell_image p.0 ++ p.1)) (ok_is (image, f.middle) (x, rest) f.goes) (
+      record { statics = a.is; pointers = b.is; functions = c.is; main = d.is; code = f.is },
+      image_text image bytes h.middle a.middle b.middle c.middle d.middle f.middle (h.parts ∙ ap (λ (v : List ℕ). v ++ h.middle) h.is) a.parts b.parts c.parts d.parts f.parts,
+    )
+
+image_again : (x : Image) (rest : List ℕ) → IsImage x → image_parts (spell_image x ++ rest) ≡ Ok (x, rest)
+unfolding image_parts gives
+image_again x rest is =
+    ap image_parts (regroup_image x rest)
+    ∙ then_again _ head_spelled head _ refl
+    ∙ then_again _ statics_spelled x.statics _ is.statics
+    ∙ then_again _ pointers_spelled x.pointers _ is.pointers
+    ∙ then_again _ functions_spelled x.functions _ is.functions
+    ∙ then_again _ word_spelled x.main _ is.main
+    ∙ then_again _ code_spelled x.code rest is.code
+
+-- ---- whole images
+
+spelled_whole : (bytes : List ℕ) (x : Image) → Spells bytes x → image_parts bytes ≡ Ok (x, [])
+spelled_whole bytes x s = ap image_parts (s.1 ∙ sym (append-nil (spell_image x))) ∙ image_again x [] s.0
+
+-- what is read to its end is spelled so
+whole_spelled : (bytes : List ℕ) (x : Image) → IsBytes bytes → image_parts bytes ≡ Ok (x, []) → Spells bytes x
+whole_spelled bytes x fits e = let s = image_sound bytes x [] fits e in (s.0, s.1 ∙ append-nil (spell_image x))
+
+pub one_image : (bytes : List ℕ) (x y : Image) → Spells bytes x → Spells bytes y → x ≡ y
+one_image bytes x y s t = ap (λ (p : Image × List ℕ). p.0) (ok_is (x, []) (y, []) (sym (spelled_whole bytes x s) ∙ spelled_whole bytes y t))
+
+pub no_prefix : (x y : Image) (rest : List ℕ) → IsImage x → IsImage y → spell_image x ++ rest ≡ spell_image y → (x ≡ y) × (rest ≡ [])
+no_prefix x y rest is are e =
+    let same = ok_is (x, rest) (y, []) (sym (image_again x rest is) ∙ ap image_parts e ∙ spelled_whole (spell_image y) y (are, refl)) in
+    (ap (λ (p : Image × List ℕ). p.0) same, ap (λ (p : Image × List ℕ). p.1) same)
+
+-- ---- the first wrong place
+
+-- the bytes before are a beginning, and with the next byte they are none
+wrong_at : (seen rest : List ℕ) → IsBegun seen → ((wrong : ℕ) (after other : List ℕ) → rest ≡ wrong ∷ after → (x : Image) → image_parts (seen ++ wrong ∷ other) ≡ Ok (x, []) → ⊥)
+    → (rest ≡ [] → (x : Image) → Spells seen x → ⊥) → IsFirstWrong (seen ++ rest) (length seen)
+wrong_at seen rest begun shut proper = record {
+  within = omega (arith, length-append seen rest);
+  before = subst IsBegun (sym (take_at seen rest (length seen) refl)) begun;
+  wrong = λ lt b. refuse rest shut lt b;
+  proper = λ e x s. finish rest proper e x s;
+} where
+  refuse : (rest : List ℕ) → ((wrong : ℕ) (after other : List ℕ) → rest ≡ wrong ∷ after → (x : Image) → image_parts (seen ++ wrong ∷ other) ≡ Ok (x, []) → ⊥)
+      → length seen < length (seen ++ rest) → IsBegun (take (length seen + 1) (seen ++ rest)) → ⊥
+  refuse [] shut lt b = absurd (omega (arith, length-append seen []))
+  refuse (wrong ∷ after) shut lt b =
+      let front : take (length seen + 1) (seen ++ wrong ∷ after) ≡ seen ++ wrong ∷ [] =
+      ap (λ (l : List ℕ). take (length seen + 1) l) (sym (append_assoc seen (wrong ∷ []) after)) ∙ take_at (seen ++ wrong ∷ []) after (length seen + 1) (length-append seen (wrong ∷ [])) in
+      let whole : Spells ((seen ++ wrong ∷ []) ++ b.1) b.0 = subst (λ (l : List ℕ). Spells (l ++ b.1) b.0) front b.2 in
+      shut wrong after b.1 refl b.0 (ap image_parts (sym (append_assoc seen (wrong ∷ []) b.1)) ∙ spelled_whole ((seen ++ wrong ∷ []) ++ b.1) b.0 whole)
+
+  finish : (rest : List ℕ) → (rest ≡ [] → (x : Image) → Spells seen x → ⊥) → length seen ≡ length (seen ++ rest) → (x : Image) → Spells (seen ++ rest) x → ⊥
+  finish [] proper e x s = proper refl x (subst (λ (l : List ℕ). Spells l x) (append-nil seen) s)
+  finish (b ∷ rest) proper e x s = absurd (omega (arith, length-append seen (b ∷ rest)))
+
+-- bytes follow the image
+trailing : (bytes : List ℕ) (x : Image) (b : ℕ) (after : List ℕ) → IsBytes bytes → image_parts bytes ≡ Ok (x, b ∷ after) → IsFirstWrong bytes (length bytes - suc (length after))
+trailing bytes x b after fits e =
+    let s = image_sound bytes x (b ∷ after) fits e in
+    let place : length (spell_image x) ≡ length bytes - suc (length after) = omega (arith, ap length s.1, length-append (spell_image x) (b ∷ after)) in
+    let begun : IsBegun (spell_image x) = (x, [], (s.0, append-nil (spell_image x))) in
+    let first = wrong_at (spell_image x) (b ∷ after) begun
+    (λ wrong behind other same y read.
+    let g = ok_is (x, wrong ∷ other) (y, []) (sym (image_again x (wrong ∷ other) s.0) ∙ read) in
+    let q : wrong ∷ other ≡ [] = ap (λ (p : Image × List ℕ). p.1) g in absurd cc)
+    (λ none y t. absurd cc) in
+    subst (λ (n : ℕ). IsFirstWrong bytes n) place (subst (λ (l : List ℕ). IsFirstWrong l (length (spell_image x))) (sym s.1) first)
+
+-- a part is at fault
+broken : (bytes : List ℕ) (left : ℕ) → IsBytes bytes → image_parts bytes ≡ Err left → IsFirstWrong bytes (length bytes - left) × (left ≤ length bytes)
+broken bytes left fits e =
+    let s = image_reader.stops bytes left e in
+    let o = s.open_ in
+    let small : IsBytes (s.seen ++ o.next ∷ o.more) = IsBytes-append s.seen (o.next ∷ o.more) (IsBytes-front s.seen s.rest (subst IsBytes s.parts fits)) o.are_bytes in
+    let begun : IsBegun s.seen = (o.value, o.next ∷ o.more, whole_spelled (s.seen ++ o.next ∷ o.more) o.value small o.whole) in
+    let long : length bytes ≡ length s.seen + left = ap length s.parts ∙ length-append s.seen s.rest ∙ ap (λ (n : ℕ). length s.seen + n) s.count in
+    let place : length s.seen ≡ length bytes - left = omega arith in
+    let first = wrong_at s.seen s.rest begun
+    (λ wrong after other same y read. let g = sym (s.shut wrong after same other) ∙ read in absurd cc)
+    (λ none y t.
+    let same : bytes ≡ s.seen = s.parts ∙ ap (λ (l : List ℕ). s.seen ++ l) none ∙ append-nil s.seen in
+    let g = sym e ∙ ap image_parts same ∙ spelled_whole s.seen y t in absurd cc) in
+    (subst (λ (n : ℕ). IsFirstWrong bytes n) place (subst (λ (l : List ℕ). IsFirstWrong l (length s.seen)) (sym s.parts) first), omega arith)
+
+-- ---- what reading answers
+
+-- what reading answers, as an image or as how many bytes are left
+pub data Judged (bytes : List ℕ) (read : Result Image ℕ) : Type 0 where
+  whole : (x : Image) (is : read ≡ Ok x) (spells : Spells bytes x) → Judged bytes read
+  wrong : (left : ℕ) (is : read ≡ Err left) (first : IsFirstWrong bytes (length bytes - left)) (most : left ≤ length bytes) → Judged bytes read
+
+not_ended : (x : Image) (b : ℕ) (after : List ℕ) → ended (done (x, b ∷ after)) ≡ Err (suc (length after))
+not_ended x b after = rw (ne_eqb (suc (length after)) 0 (omega arith)) refl
+
+pub judged : (bytes : List ℕ) → IsBytes bytes → Judged bytes (image_of bytes)
+unfolding image_of
+judged bytes fits =
+    elim (answered (image_parts bytes)) [
+      | found x rest e ↦ at_rest rest e
+      | stuck left e ↦ let b = broken bytes left fits e in wrong left (ap ended e) b.0 b.1
+    ] where
+      at_rest : {x : Image} (rest : List ℕ) → image_parts bytes ≡ Ok (x, rest) → Judged bytes (ended (image_parts bytes))
+      at_rest {x = x} [] e = whole x (ap ended e) (whole_spelled bytes x fits e)
+      at_rest {x = x} (b ∷ after) e =
+          let s = image_sound bytes x (b ∷ after) fits e in
+          wrong (suc (length after)) (ap ended e ∙ not_ended x b after) (trailing bytes x b after fits e) (omega (arith, ap length s.1, length-append (spell_image x) (b ∷ after)))
+
+ok_same : (x y : Image) → told x ≡ told y → x ≡ y
+ok_same x y e = cc
+
+left_same : (m n : ℕ) → failed m ≡ failed n → m ≡ n
+left_same m n e = cc
+
+pub read_whole : (bytes : List ℕ) (x : Image) → IsBytes bytes → image_of bytes ≡ Ok x → Spells bytes x
+read_whole bytes x fits e =
+    elim (judged bytes fits) [
+      | whole y is spells ↦ subst (λ (z : Image). Spells bytes z) (ok_same y x (sym is ∙ e)) spells
+      | wrong left is first most ↦ let g = sym is ∙ e in absurd cc
+    ]
+
+pub read_wrong : (bytes : List ℕ) (left : ℕ) → IsBytes bytes → image_of bytes ≡ Err left → IsFirstWrong bytes (length bytes - left) × (left ≤ length bytes)
+read_wrong bytes left fits e =
+    elim (judged bytes fits) [
+      | whole y is spells ↦ let g = sym is ∙ e in absurd cc
+      | wrong here is first most ↦ subst (λ (n : ℕ). IsFirstWrong bytes (length bytes - n) × (n ≤ length bytes)) (left_same here left (sym is ∙ e)) (first, most)
+    ]
+
+-- the bytes of a slice
+pub are_bytes : (bytes : List ℕ) → ((i : ℕ) → get_or bytes i 0 < 256) → IsBytes bytes
+are_bytes [] h = tt
+are_bytes (b ∷ bytes) h = (h 0, are_bytes bytes (λ i. h (suc i)))
+
+-- reading what was written
+pub reads_back : (x : Image) (r : Result Image ℕ) → IsImage x → Reads (spell_image x) r → r ≡ Ok x
+reads_back x (Ok y) is reads = ap told (one_image (spell_image x) y x reads (is, refl))
+reads_back x (Err at) is reads =
+    elim (cases_lt at (length (spell_image x))) [
+      | inl lt ↦
+          absurd (reads.wrong lt (x, drop (at + 1) (spell_image x), subst (λ (l : List ℕ). Spells l x) (sym (take-append-drop (at + 1) (spell_image x))) (is, refl)))
+      | inr ge ↦ absurd (reads.proper (omega (arith, reads.within)) x (is, refl))
+    ]

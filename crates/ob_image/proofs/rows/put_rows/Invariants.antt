@@ -1,0 +1,7 @@
+use Rattle.std.proofs.Common.{◌≡◌, ◌++◌, length, take}
+use Rattle.std.specs.List.{flat_map}
+use Rattle.ob_words.specs.Fields.{low_bytes}
+use Rattle.ob_image.proofs.rows.put_rows.Given as goal
+
+abbrev pub invariant-loop-row : goal.invariant-loop-row
+invariant-loop-row g l = l.out.items ≡ l.fn.out.items ++ (low_bytes 4 (length l.rows) ++ flat_map g.T.Row.spelling (take l.row-index l.rows))

@@ -1,0 +1,190 @@
+ghost use Rattle.std.specs.Prelude.{◌≡◌, ◌++◌, OnOk, IfOk};
+ghost use Rattle.ob_image.specs.Layout.{spell_instruction, AreFields};
+ghost use Rattle.ob_image.specs.Reading.{Gives, static_row, pointer_row, local_row, function_row, fields_row, instruction_row};
+ghost use Rattle.ob_image.specs.Spelling.{spell_static, spell_pointer, spell_local, spell_function};
+
+use crate::faults::Stop;
+use crate::fields::{put_fields, put_long, put_word};
+use crate::given::given;
+use crate::instructions::{fields_of, instruction};
+use crate::layout::{Fields, limits_of};
+use crate::numbers::{byte, long, operation, word, zeros};
+use crate::rows::{Row, counted, put_rows};
+use ob_base::NoMemory;
+use ob_code::{FunctionRow, Instr, LocalRow, PointerRow, Rows, StaticRow};
+use std::alloc::Global;
+
+impl Row for StaticRow {
+    ghost use Rattle.ob_image.specs.Reading.{static_row};
+    ghost use Rattle.ob_image.specs.Spelling.{spell_static};
+
+    ghost reader = { static_row };
+
+    ghost spelling = { spell_static };
+
+    #[tactic(auto, unfolding(crate::specs::Reading::static_row, crate::specs::Reading::gives))]
+    fn read(alloc: Global, bytes: &[u8]) -> Result<(StaticRow, &[u8]), Stop> {
+        let (size, rest) = long(u64::MAX, bytes)?;
+        let (count, rest) = long(4_194_304, rest)?;
+        let (given, rest) = given(alloc, count as usize, rest)?;
+        Ok((StaticRow { size, given }, rest))
+    }
+
+    #[tactic(auto, unfolding(crate::specs::Spelling::spell_static))]
+    fn put(&self, out: &mut Vec<u8>) -> Result<(), NoMemory> {
+        let given = self.given.bytes();
+        put_long(out, self.size)?;
+        put_long(out, given.len() as u64)?;
+        out.extend_from_slice(given)?;
+        Ok(())
+    }
+}
+
+impl Row for PointerRow {
+    ghost use Rattle.ob_image.specs.Reading.{pointer_row};
+    ghost use Rattle.ob_image.specs.Spelling.{spell_pointer};
+
+    ghost reader = { pointer_row };
+
+    ghost spelling = { spell_pointer };
+
+    #[tactic(auto, unfolding(crate::specs::Reading::pointer_row, crate::specs::Reading::gives))]
+    fn read(_alloc: Global, bytes: &[u8]) -> Result<(PointerRow, &[u8]), Stop> {
+        let (holder, rest) = word(u32::MAX, bytes)?;
+        let (offset, rest) = long(u64::MAX, rest)?;
+        let (target, rest) = word(u32::MAX, rest)?;
+        let (target_offset, rest) = long(u64::MAX, rest)?;
+        let row = PointerRow {
+            holder,
+            offset,
+            target,
+            target_offset,
+        };
+        Ok((row, rest))
+    }
+
+    #[tactic(auto, unfolding(crate::specs::Spelling::spell_pointer))]
+    fn put(&self, out: &mut Vec<u8>) -> Result<(), NoMemory> {
+        put_word(out, self.holder)?;
+        put_long(out, self.offset)?;
+        put_word(out, self.target)?;
+        put_long(out, self.target_offset)?;
+        Ok(())
+    }
+}
+
+impl Row for LocalRow {
+    ghost use Rattle.ob_image.specs.Reading.{local_row};
+    ghost use Rattle.ob_image.specs.Spelling.{spell_local};
+
+    ghost reader = { local_row };
+
+    ghost spelling = { spell_local };
+
+    #[tactic(auto, unfolding(crate::specs::Reading::local_row, crate::specs::Reading::gives))]
+    fn read(_alloc: Global, bytes: &[u8]) -> Result<(LocalRow, &[u8]), Stop> {
+        let (ordinal, rest) = word(u32::MAX, bytes)?;
+        let (place, rest) = long(u64::MAX, rest)?;
+        let (size, rest) = long(u64::MAX, rest)?;
+        Ok((
+            LocalRow {
+                ordinal,
+                place,
+                size,
+            },
+            rest,
+        ))
+    }
+
+    #[tactic(auto, unfolding(crate::specs::Spelling::spell_local))]
+    fn put(&self, out: &mut Vec<u8>) -> Result<(), NoMemory> {
+        put_word(out, self.ordinal)?;
+        put_long(out, self.place)?;
+        put_long(out, self.size)?;
+        Ok(())
+    }
+}
+
+impl Row for FunctionRow {
+    ghost use Rattle.ob_image.specs.Reading.{function_row};
+    ghost use Rattle.ob_image.specs.Spelling.{spell_function};
+
+    ghost reader = { function_row };
+
+    ghost spelling = { spell_function };
+
+    #[tactic(auto, unfolding(crate::specs::Reading::function_row, crate::specs::Reading::gives))]
+    fn read(alloc: Global, bytes: &[u8]) -> Result<(FunctionRow, &[u8]), Stop> {
+        let (entry, rest) = word(u32::MAX, bytes)?;
+        let (params, rest) = word(u32::MAX, rest)?;
+        let (words, rest) = word(u32::MAX, rest)?;
+        let (vars, rest) = word(u32::MAX, rest)?;
+        let (allowance, rest) = long(u64::MAX, rest)?;
+        let (locals, rest) = counted(alloc, 524_288, rest)?;
+        let locals = Rows::from_vec(locals);
+        let row = FunctionRow {
+            entry,
+            params,
+            words,
+            vars,
+            allowance,
+            locals,
+        };
+        Ok((row, rest))
+    }
+
+    #[tactic(auto, unfolding(crate::specs::Spelling::spell_function))]
+    fn put(&self, out: &mut Vec<u8>) -> Result<(), NoMemory> {
+        put_word(out, self.entry)?;
+        put_word(out, self.params)?;
+        put_word(out, self.words)?;
+        put_word(out, self.vars)?;
+        put_long(out, self.allowance)?;
+        put_rows(out, self.locals.as_slice())
+    }
+}
+
+#[tactic(auto, unfolding(crate::specs::Reading::fields_row, crate::specs::Reading::operands_row, crate::specs::Reading::gives))]
+fn fields(bytes: &[u8]) -> Result<(Fields, &[u8]), Stop>
+    ensures value { Gives (λ x. (x.0, x.1.now)) result (fields_row bytes.now) }
+    ensures form { IfOk result (λ x. AreFields x.0) }
+{
+    let (op, rest) = operation(bytes)?;
+    let limits = limits_of(op);
+    let (kind, rest) = byte(limits.kind, rest)?;
+    let (_zeros, rest) = zeros(rest)?;
+    let (line, rest) = word(limits.line, rest)?;
+    let (a, rest) = word(limits.a, rest)?;
+    let (b, rest) = word(limits.b, rest)?;
+    let (c, rest) = word(limits.c, rest)?;
+    let (imm, rest) = long(limits.imm, rest)?;
+    let fields = Fields {
+        op,
+        kind,
+        line,
+        a,
+        b,
+        c,
+        imm,
+    };
+    Ok((fields, rest))
+}
+
+impl Row for Instr {
+    ghost use Rattle.ob_image.specs.Layout.{spell_instruction, AreFields};
+    ghost use Rattle.ob_image.specs.Reading.{instruction_row};
+
+    ghost reader = { instruction_row };
+
+    ghost spelling = { spell_instruction };
+
+    #[tactic(auto, unfolding(crate::specs::Reading::instruction_row, crate::specs::Reading::gives))]
+    fn read(_alloc: Global, bytes: &[u8]) -> Result<(Instr, &[u8]), Stop> {
+        let (fields, rest) = fields(bytes)?;
+        Ok((instruction(fields), rest))
+    }
+
+    fn put(&self, out: &mut Vec<u8>) -> Result<(), NoMemory> {
+        put_fields(out, fields_of(*self))
+    }
+}
