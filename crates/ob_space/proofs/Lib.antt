@@ -1,2 +1,4 @@
 pub mod StackWrites
 pub mod CallLists
+pub mod Entering
+pub mod Changing

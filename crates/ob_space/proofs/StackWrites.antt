@@ -40,9 +40,9 @@ below_after : (old between new : Memory) (end : ℕ) → KeepsBelow old between 
 below_after old between new end first second address low high = second address low high ∙ first address low high
 
 -- what opening a frame gives
-pub record IsOpened (base link caller : ℕ) (old new : Memory) : Type 0 where
-  pub link : field new base 8 ≡ link
-  pub caller : field new (base + 8) 8 ≡ caller
+pub record IsOpened (base to caller : ℕ) (old new : Memory) : Type 0 where
+  pub link : field new base 8 ≡ to
+  pub outer : field new (base + 8) 8 ≡ caller
   pub below : KeepsBelow old new base
   pub stack : HasStack new
 
@@ -62,7 +62,7 @@ opened base length link caller m read others zeros layout stack inside long smal
         below_put linked (base + 8) caller others has_link second base inside.begins (omega arith)
         ∙ read zeroed base 8 link has_zeros.laid_out (on_stack zeroed base 8 has_zeros first)
         ∙ small link small_link;
-      caller = read linked (base + 8) 8 caller has_link.laid_out (on_stack linked (base + 8) 8 has_link second) ∙ small caller small_caller;
+      outer = read linked (base + 8) 8 caller has_link.laid_out (on_stack linked (base + 8) 8 has_link second) ∙ small caller small_caller;
       below =
         below_after m linked (with_field linked (base + 8) 8 caller) base
         (below_after m zeroed linked base (below_zeros m base length zeros stack inside) (below_put zeroed base link others has_zeros first))
