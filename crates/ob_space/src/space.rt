@@ -1,7 +1,8 @@
 ghost use Rattle.std.specs.Prelude.{◌≡◌, ◌+◌, ◌*◌, ◌<◌, ◌≤◌, ◌^◌, length, IfOk, MatchResult};
 ghost use Rattle.ob_model.specs.Settings.{IsFit};
-ghost use Rattle.ob_code.specs.Frames.{frame_word, with_word};
+ghost use Rattle.ob_code.specs.Frames.{frame_word, top_base, with_word};
 ghost use Rattle.ob_space.specs.Links.{KeepsLinks};
+ghost use Rattle.ob_space.specs.Writes.{WritesWord};
 ghost use Rattle.ob_space.specs.Loaded.{loaded, cleared, top_words, Enters, IsRefused, top_link, left};
 
 use crate::calls::{Active, add_call, top_base};
@@ -148,6 +149,7 @@ impl Space {
         requires least { 2 ≤ index }
         requires most { index < top_words self.old }
         ensures memory { self.new ≡ record self.old { space = with_word self.old.space index w } }
+        ensures word { WritesWord (top_base self.old.space.calls + 8 * index) w self.old.space.memory self.new.space.memory }
         ensures links { KeepsLinks self.old.space self.new.space }
     {
         let base = top_base(self.calls.as_slice());

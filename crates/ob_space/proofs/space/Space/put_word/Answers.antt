@@ -7,6 +7,7 @@ use Rattle.ob_space.specs.Calls.{calls_in}
 use Rattle.ob_space.specs.Kept.{space_in}
 use Rattle.ob_space.specs.Links.{AllHaveLinks}
 use Rattle.ob_space.specs.Loaded.{Loaded, top_words}
+use Rattle.ob_space.specs.Writes.{WritesWord}
 use Rattle.ob_space.proofs.CallLists.{keeps_links, word_on_stack}
 use Rattle.ob_space.proofs.Changing.{kept_put, links_put, put_space}
 use Rattle.ob_space.proofs.space.Space.put_word.Goals as goal
@@ -50,3 +51,9 @@ returns-clause-links c =
     let before : Space = space_in c.self.inside.flat c.self.inside.calls.items c.self.inside.next in
     let after : Space = space_in c.put_in_frame.new.flat c.self.inside.calls.items c.self.inside.next in
     rw (← c.self.view_is) (keeps_links before after (linked c))
+
+pub returns-clause-word : goal.returns-clause-word
+returns-clause-word c =
+    let word : WritesWord (top_base (calls_in c.self.inside.flat c.self.inside.calls.items) + 8 * c.args.index) c.args.w c.self.inside.flat c.put_in_frame.new.flat =
+    rw (← base c, ← c.from.ensures) c.put_in_frame.ensures.word in
+    rw (← c.self.view_is) word
