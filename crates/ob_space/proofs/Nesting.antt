@@ -1,7 +1,7 @@
 -- Calls come and go innermost first.
-use Rattle.std.proofs.Common.{◌≡◌, ℕ, List, ◌∷◌, Some, refl, ap, subst, sym, ◌∙◌}
+use Rattle.std.proofs.Common.{◌≡◌, List, ◌∷◌, refl, ap, subst, sym, ◌∙◌}
 use Rattle.ob_code.specs.declared.image.FunctionRow.{FunctionRow}
-use Rattle.ob_code.specs.Frames.{entered, with_word}
+use Rattle.ob_code.specs.Frames.{entered}
 use Rattle.ob_code.specs.State.{Call, Space}
 use Rattle.ob_space.specs.Laws.{Between, nothing, write, call, LeaveGivesItsLink}
 use Rattle.ob_space.specs.Loaded.{top_link, left_top}

@@ -1,5 +1,5 @@
 -- What writes to the stack leave as it was, and what they write. The laws of memory come in as premises.
-use Rattle.std.proofs.Common.{◌≡◌, ℕ, ◌+◌, ◌%◌, ◌^◌, ◌<◌, ◌≤◌, ◌∙◌, sym, true, arith, inl, inr}
+use Rattle.std.proofs.Common.{◌≡◌, ℕ, ◌+◌, ◌%◌, ◌^◌, ◌<◌, ◌≤◌, ◌∙◌, true, arith, inl, inr}
 use Rattle.ob_flat.specs.Laws.{FieldIsRead, OtherFieldsAreKept, OthersAreKeptByZeros, LayoutIsKept}
 use Rattle.ob_flat.specs.Memory.{Memory, IsIn, field, with_field, with_zeros}
 use Rattle.ob_space.specs.Kept.{HasStack}

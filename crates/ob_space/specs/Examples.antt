@@ -1,5 +1,5 @@
 -- Two small functions, and calls of them on a stack of 128 bytes.
-use Rattle.std.specs.Prelude.{ℕ, List, [], ◌∷◌}
+use Rattle.std.specs.Prelude.{List, [], ◌∷◌}
 use Rattle.ob_model.specs.declared.settings.Mode.TheVariants.{Oblivious}
 use Rattle.ob_code.specs.declared.image.FunctionRow.{FunctionRow}
 use Rattle.ob_code.specs.Examples.{function_of, settings_of}

@@ -1,6 +1,6 @@
 -- The link words of frames. A checked access can't reach them, so that no program that goes on past a memory error changes
 -- the place that a call returns to.
-use Rattle.std.specs.Prelude.{◌≡◌, ℕ, ◌+◌, ◌<◌, List, [], ◌∷◌, ◌++◌, length}
+use Rattle.std.specs.Prelude.{◌≡◌, ◌+◌, ◌<◌, List, [], ◌∷◌, ◌++◌, length}
 use Rattle.ob_flat.specs.Memory.{Memory, field}
 use Rattle.ob_code.specs.Frames.{top_base}
 use Rattle.ob_code.specs.State.{Call, Space}

@@ -1,6 +1,4 @@
-use Rattle.std.proofs.Common.{◌≡◌, [], List, ap, refl, ◌∙◌}
-use Rattle.ob_flat.specs.Memory.{zeroed}
-use Rattle.ob_code.specs.declared.image.FunctionRow.{FunctionRow}
+use Rattle.std.proofs.Common.{◌≡◌, [], ap, refl, ◌∙◌}
 use Rattle.ob_code.specs.declared.image.Image.{Image}
 use Rattle.ob_space.proofs.Changing.{no_pointers, no_statics}
 use Rattle.ob_space.proofs.space.Space.new.Goals as goal
