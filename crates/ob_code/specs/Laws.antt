@@ -9,10 +9,10 @@ use Rattle.ob_model.specs.declared.strays.Act.TheVariants as act
 use Rattle.ob_model.specs.declared.strays.StrayEvent.{StrayEvent}
 use Rattle.ob_model.specs.Endings.{InputEnd, closed, failed, plain}
 use Rattle.ob_code.specs.declared.image.Image.{Image}
-use Rattle.ob_code.specs.Courses.{stray_event}
+use Rattle.ob_code.specs.Accesses.{stray_event}
 use Rattle.ob_code.specs.Examples as examples
 use Rattle.ob_code.specs.Examples.{settings_of}
-use Rattle.ob_code.specs.Start.{flat_instructions, laid_out, run_from, outcome_of}
+use Rattle.ob_code.specs.Start.{flat_final, flat_instructions, laid_out, run_from, outcome_of}
 use Rattle.ob_code.specs.State.{Final}
 
 abbrev pub run_on : Image → RunSettings → List ℕ → InputEnd → Final
@@ -26,7 +26,7 @@ small_run image = run_on image (settings_of Oblivious 1 32) [] closed
 -- the run ends so, after so many instructions, with this output, these stray accesses and this place in the cycle
 abbrev pub Gives : Final → Ending → ℕ → List ℕ → List StrayEvent → ℕ → Type 0
 Gives f ending count output events place =
-    (outcome_of f ≡ record { finish = plain ending; output = output; events = events; place = place }) × (f.state.count ≡ count)
+    (outcome_of f ≡ record { finish = plain ending; output = output; events = events; cycle_place = place }) × (f.state.instructions ≡ count)
 
 -- the same where nothing is written and nothing goes astray
 abbrev pub Ends : Final → Ending → ℕ → Type 0
@@ -123,3 +123,10 @@ abbrev pub RunsAreBounded : Type 0
 RunsAreBounded =
     (image : Image) (settings : RunSettings) (cycle : List ℕ) (place : ℕ) (input : List ℕ) (input_end : InputEnd) (steps : ℕ) →
     flat_instructions image settings cycle place input input_end steps ≤ (length image.code + 1) * (steps + 1)
+
+-- and exactly its bound where it ends for that
+abbrev pub SpentRunsAreExact : Type 0
+SpentRunsAreExact =
+    (image : Image) (settings : RunSettings) (cycle : List ℕ) (place : ℕ) (input : List ℕ) (input_end : InputEnd) (steps : ℕ) →
+    (flat_final image settings cycle place input input_end steps).ending ≡ Spent →
+    flat_instructions image settings cycle place input input_end steps ≡ (length image.code + 1) * (steps + 1)

@@ -1,7 +1,7 @@
 pub mod State
 pub mod Frames
 pub mod Pointers
-pub mod Courses
+pub mod Accesses
 pub mod Allocation
 pub mod Machine
 pub mod Start
