@@ -1,5 +1,5 @@
 -- The objects of the heap (C99 7.20.3). A block of the heap lies at 2 ^ 25 plus its place.
-use Rattle.std.specs.Prelude.{ℕ, ◌+◌, ◌-◌, ◌==◌, ◌&&◌, Bool, true, false, ℤ, pos, Option, Some, None}
+use Rattle.std.specs.Prelude.{ℕ, ◌+◌, ◌==◌, ◌&&◌, Bool, true, false, ℤ, pos, Option, Some, None}
 use Rattle.std.specs.Ordering.{int_eq}
 use Rattle.ob_words.specs.Words.{block}
 use Rattle.ob_model.specs.declared.objects.Entry.{Entry}

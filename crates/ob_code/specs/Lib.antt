@@ -8,3 +8,5 @@ pub mod Start
 pub mod Examples
 pub mod Laws
 pub mod Rules
+pub mod Unbuilt
+pub mod FirstFault

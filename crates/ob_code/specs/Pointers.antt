@@ -1,9 +1,7 @@
 -- Pointers as words (Ruwase and Lam, NDSS 2004; Jones and Kelly). Null is 0. A pointer into a live object, or one past its
 -- end, is the object's base plus the offset. Any other pointer has a slot, and its word is 2 ^ 40 + 16 * slot. A word that
 -- is none of these names nothing, and is treated as null.
-use Rattle.std.specs.Prelude.{ℕ, ◌+◌, ◌-◌, ◌*◌, ◌/◌, ◌%◌, ◌^◌, Bool, true, false, ◌==◌, ◌&&◌, ◌||◌, not, nat_le, nat_lt, ℤ, pos, ◌+ℤ◌, ◌-ℤ◌, int_lt, int_div, unsigned_abs, List, [], ◌∷◌, ◌++◌, length, Option, Some, None, is_some, is_none, slice_get, slice_set, if◌then◌else◌}
-use Rattle.std.specs.List.{position, count_by}
-use Rattle.std.specs.Ordering.{int_eq}
+use Rattle.std.specs.Prelude.{ℕ, ◌+◌, ◌-◌, Bool, true, false, ◌==◌, ◌&&◌, ◌||◌, not, nat_lt, ℤ, pos, ◌+ℤ◌, ◌-ℤ◌, int_lt, int_div, unsigned_abs, List, Option, Some, None, if◌then◌else◌}
 use Rattle.ob_words.specs.declared.types.Relation.{Relation}
 use Rattle.ob_words.specs.declared.types.Relation.TheVariants.{Lt, Gt, Le, Ge, Eq, Ne}
 use Rattle.ob_model.specs.declared.objects.Entry.{Entry}
