@@ -3,6 +3,7 @@
 use Rattle.std.specs.Prelude.{◌≡◌, ℕ, ◌+◌, ◌*◌, ◌≤◌, pos, negsuc, List, [], ◌∷◌, length}
 use Rattle.ob_model.specs.declared.endings.Ending.{Ending}
 use Rattle.ob_model.specs.declared.endings.Ending.TheVariants.{Ended, Steps, Divide, Stack, Descriptors, Far, Spent, ReadFault}
+use Rattle.ob_model.specs.declared.settings.Mode.{Mode}
 use Rattle.ob_model.specs.declared.settings.Mode.TheVariants.{Oblivious, Boundless}
 use Rattle.ob_model.specs.declared.settings.RunSettings.{RunSettings}
 use Rattle.ob_model.specs.declared.strays.Act.TheVariants as act
@@ -115,6 +116,37 @@ abbrev pub StoreVanishesOrIsKept : Type 0
 StoreVanishesOrIsKept =
     Gives (small_run examples.past_the_end) (Ended (pos 0)) 8 (0 ∷ []) (stray_event 1 act.Store 1 (pos 8) 1 ∷ stray_event 2 act.Load 1 (pos 8) 1 ∷ []) 1
     × Gives (run_on examples.past_the_end (settings_of Boundless 1 32) [] closed) (Ended (pos 0)) 8 (7 ∷ []) (stray_event 1 act.Store 1 (pos 8) 1 ∷ stray_event 2 act.Load 1 (pos 8) 1 ∷ []) 0
+
+-- ---- stray accesses and death
+
+-- of three granules the bounded list, which keeps two here, has dropped the one that was not used last
+abbrev pub LeastRecentlyUsedLeaves : Type 0
+LeastRecentlyUsedLeaves =
+    Gives (run_on examples.recency (settings_of Boundless 1 32) [] closed) (Ended (pos 0)) 18 (7 ∷ 0 ∷ [])
+    (stray_event 1 act.Store 1 (pos 8) 1 ∷ stray_event 2 act.Store 1 (pos 16) 1 ∷ stray_event 3 act.Load 1 (pos 8) 1
+    ∷ stray_event 4 act.Store 1 (pos 24) 1 ∷ stray_event 5 act.Load 1 (pos 8) 1 ∷ stray_event 6 act.Load 1 (pos 16) 1 ∷ []) 1
+
+-- an ill-aligned access vanishes in both modes, and so does one through null, which is told with object 0
+abbrev pub IllAlignedVanishes : Mode → Type 0
+IllAlignedVanishes mode =
+    Gives (run_on examples.ill_aligned (settings_of mode 1 32) [] closed) (Ended (pos 0)) 12 (3 ∷ [])
+    (stray_event 1 act.Store 1 (pos 2) 4 ∷ stray_event 2 act.Load 1 (pos 2) 4 ∷ stray_event 3 act.Load 0 (pos 2) 4
+    ∷ stray_event 4 act.Load 0 (pos 2) 1 ∷ []) 0
+
+abbrev pub VanishesInBothModes : Type 0
+VanishesInBothModes = IllAlignedVanishes Oblivious × IllAlignedVanishes Boundless
+
+abbrev pub PointerIsStoredWhole : Type 0
+PointerIsStoredWhole = Gives (small_run examples.pointer_in_granule) (Ended (pos 0)) 16 (1 ∷ 1 ∷ 7 ∷ []) [] 0
+
+abbrev pub FreedSlotIsReused : Type 0
+FreedSlotIsReused = Ends (small_run examples.reused_slot) (Ended (pos 1)) 10
+
+-- a dead object's granules are none of the next object's at its place
+abbrev pub DeadGranulesAreForgotten : Type 0
+DeadGranulesAreForgotten =
+    Gives (run_on examples.forgotten (settings_of Boundless 1 32) [] closed) (Ended (pos 0)) 10 (0 ∷ [])
+    (stray_event 1 act.Store 1 (pos 8) 1 ∷ stray_event 2 act.Load 2 (pos 8) 1 ∷ []) 1
 
 -- ---- every run
 
