@@ -1,12 +1,13 @@
 -- No instruction changes the count of instructions, and none ends a run for having done too many. So a run of at most n of them
 -- counts n more at most, and exactly n where it ends with Spent.
-use Rattle.std.proofs.Common.{◌≡◌, ◌≢◌, ℕ, zero, suc, ◌+◌, ◌*◌, ◌%◌, ◌≤◌, Bool, true, false, cond, ℤ, ◌+ℤ◌, ◌*ℤ◌, unsigned_abs, slice_get, List, [], ◌∷◌, length, Option, Some, None, Result, Ok, Err, arith, refl}
+use Rattle.std.proofs.Common.{◌≡◌, ◌≢◌, ℕ, zero, suc, ◌+◌, ◌*◌, ◌%◌, ◌≤◌, Bool, true, false, cond, ℤ, ◌+ℤ◌, ◌*ℤ◌, unsigned_abs, slice_get, List, [], ◌∷◌, length, Option, Some, None, Result, Ok, Err, arith, refl, ◌∙◌}
 use Rattle.ob_words.specs.declared.types.DivideByZero.{DivideByZero}
 use Rattle.ob_words.specs.declared.types.IntType.TheVariants.{Int, Long}
 use Rattle.ob_words.specs.Operators.{binary}
 use Rattle.ob_words.specs.Words.{word, number}
 use Rattle.ob_model.specs.declared.endings.Ending.TheVariants.{Ended, Stack, Far, Spent}
 use Rattle.ob_model.specs.declared.strays.Act.TheVariants as act
+use Rattle.ob_model.specs.declared.strays.StrayEvent.{StrayEvent}
 use Rattle.ob_model.specs.declared.values.LoadKind.{LoadKind}
 use Rattle.ob_model.specs.Accesses.{bytes_of_kind, is_far}
 use Rattle.ob_model.specs.Heap.{place_for}
@@ -14,8 +15,8 @@ use Rattle.ob_model.specs.Endings.{InputEnd, closed, failed}
 use Rattle.ob_code.specs.declared.image.Image.{Image}
 use Rattle.ob_code.specs.declared.instructions.Instr.{Instr}
 use Rattle.ob_code.specs.declared.instructions.Instr.TheVariants as instr
-use Rattle.ob_code.specs.Allocation.{Freeing, no_effect, dies, stray, freeing}
-use Rattle.ob_code.specs.Accesses.{Access, too_far, direct, own, outside, vanishing, access, read_outside, after_outside_load, stray_event}
+use Rattle.ob_code.specs.Allocation.{Freeing, freeing, free_event}
+use Rattle.ob_code.specs.Accesses.{Access, too_far, access, event_of, found_word, space_after_load}
 use Rattle.ob_code.specs.Frames.{entered, function_at, is_full, left_call, with_words, words_from}
 use Rattle.ob_code.specs.Machine as machine
 use Rattle.ob_code.specs.Pointers as pointers
@@ -66,23 +67,24 @@ unfolding Counts
 set_or_made n None u kind a s e = e
 set_or_made n (Some w) u kind a s e = e
 
+told : (e : Option StrayEvent) (s : State) → (machine.told e s).instructions ≡ s.instructions
+told None s = refl
+told (Some e) s = refl
+
+loaded : (x : Access) (u : Setup) (kind : LoadKind) (line a : ℕ) (s : State) → Counts s.instructions (machine.loaded x u kind line a s)
+loaded x u kind line a s =
+    let e = event_of x line act.Load (bytes_of_kind kind) in
+    set_or_made s.instructions (found_word x kind s.space) u kind a (record (machine.told e s) { space = space_after_load x s.space }) (told e s)
+
 load : (x : Access) (u : Setup) (kind : LoadKind) (line a : ℕ) (s : State) → Counts s.instructions (machine.load x u kind line a s)
-unfolding Counts set_or_made
+unfolding Counts loaded
 load too_far u kind line a s = (refl, λ h. absurd (cc))
-load (direct address) u kind line a s = refl
-load (own object offset address) u kind line a s = refl
-load (outside object offset) u kind line a s =
-    set_or_made s.instructions (read_outside kind object offset s.space) u kind a
-    (record (machine.told (stray_event line act.Load object offset (bytes_of_kind kind)) s) { space = after_outside_load object offset s.space }) refl
-load (vanishing object offset) u kind line a s = refl
+load x u kind line a s = loaded x u kind line a s
 
 store : (x : Access) (u : Setup) (kind : LoadKind) (line w : ℕ) (s : State) → Counts s.instructions (machine.store x u kind line w s)
 unfolding Counts
 store too_far u kind line w s = (refl, λ h. absurd (cc))
-store (direct address) u kind line w s = refl
-store (own object offset address) u kind line w s = refl
-store (outside object offset) u kind line w s = refl
-store (vanishing object offset) u kind line w s = refl
+store x u kind line w s = told (event_of x line act.Store (bytes_of_kind kind)) s
 
 slide : (d : ℤ) (a : ℕ) (s : State) → Counts s.instructions (machine.slide d a s)
 unfolding Counts either
@@ -103,9 +105,7 @@ get_char n failed (byte ∷ rest) a s e = e
 
 free : (n : ℕ) (x : Freeing) (line : ℕ) (s : State) → s.instructions ≡ n → Counts n (machine.free x line s)
 unfolding Counts
-free n no_effect line s e = e
-free n (dies entry) line s e = e
-free n (stray entry offset) line s e = e
+free n x line s e = told (free_event x line) s ∙ e
 
 act_on : (u : Setup) (i : Option Instr) (s : State) → Counts s.instructions (machine.act_on u i s)
 unfolding Counts

@@ -98,6 +98,38 @@ made_word Ptr cycle place = 0
 abbrev pub stray_event : ℕ → Act → ℕ → ℤ → ℕ → StrayEvent
 stray_event line act object offset size = record { line = line; act = act; object = object; offset = offset; size = size }
 
--- the space after a store at an address
 abbrev pub after_direct_store : LoadKind → ℕ → ℕ → Space → Space
 after_direct_store kind address w s = record s { memory = write_memory kind s.memory address w }
+
+-- ---- what an access does
+
+-- the event of an access that goes astray
+abbrev pub event_of : Access → ℕ → Act → ℕ → Option StrayEvent
+event_of too_far line act size = None
+event_of (direct address) line act size = None
+event_of (own object offset address) line act size = Some (stray_event line act object offset size)
+event_of (outside object offset) line act size = Some (stray_event line act object offset size)
+event_of (vanishing object offset) line act size = Some (stray_event line act object offset size)
+
+-- the word that a load finds, or none where it takes the next manufactured value
+abbrev pub found_word : Access → LoadKind → Space → Option ℕ
+found_word too_far kind s = None
+found_word (direct address) kind s = Some (read_memory kind s.memory address)
+found_word (own object offset address) kind s = Some (read_memory kind s.memory address)
+found_word (outside object offset) kind s = read_outside kind object offset s
+found_word (vanishing object offset) kind s = None
+
+-- the space after a load, and after a store of a word
+abbrev pub space_after_load : Access → Space → Space
+space_after_load too_far s = s
+space_after_load (direct address) s = s
+space_after_load (own object offset address) s = s
+space_after_load (outside object offset) s = after_outside_load object offset s
+space_after_load (vanishing object offset) s = s
+
+abbrev pub space_after_store : Access → ℕ → LoadKind → ℕ → Space → Space
+space_after_store too_far cap kind w s = s
+space_after_store (direct address) cap kind w s = after_direct_store kind address w s
+space_after_store (own object offset address) cap kind w s = after_direct_store kind address w s
+space_after_store (outside object offset) cap kind w s = after_outside_store cap kind object offset w s
+space_after_store (vanishing object offset) cap kind w s = s

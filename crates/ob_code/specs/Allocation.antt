@@ -5,10 +5,13 @@ use Rattle.ob_words.specs.Words.{block}
 use Rattle.ob_model.specs.declared.objects.Entry.{Entry}
 use Rattle.ob_model.specs.declared.objects.Sort.{Sort}
 use Rattle.ob_model.specs.declared.objects.Sort.TheVariants.{Static, Automatic, Heap}
+use Rattle.ob_model.specs.declared.strays.Act.TheVariants as act
+use Rattle.ob_model.specs.declared.strays.StrayEvent.{StrayEvent}
 use Rattle.ob_model.specs.Entries.{with_entry}
 use Rattle.ob_model.specs.Heap.{with_object}
 use Rattle.ob_flat.specs.Memory.{with_zeros}
 use Rattle.ob_code.specs.State.{Space, after_death}
+use Rattle.ob_code.specs.Accesses.{stray_event}
 use Rattle.ob_code.specs.Pointers.{Target, nothing, into}
 
 -- the address of a new object of n bytes, which are zero bytes, or 0 where no place fits
@@ -48,3 +51,14 @@ freeing (into e offset) = freeing_if (is_heap e.sort && int_eq offset (pos 0)) e
 
 abbrev pub freed : Entry → Space → Space
 freed e s = after_death (λ object. object == e.object) s
+
+-- the event of a stray `free`, which has size 0, and the space after a `free`
+abbrev pub free_event : Freeing → ℕ → Option StrayEvent
+free_event no_effect line = None
+free_event (dies e) line = None
+free_event (stray e offset) line = Some (stray_event line act.Free e.object offset 0)
+
+abbrev pub space_after_free : Freeing → Space → Space
+space_after_free no_effect s = s
+space_after_free (dies e) s = freed e s
+space_after_free (stray e offset) s = s

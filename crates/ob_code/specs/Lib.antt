@@ -3,6 +3,7 @@ pub mod Frames
 pub mod Pointers
 pub mod Accesses
 pub mod Allocation
+pub mod Layout
 pub mod Machine
 pub mod Start
 pub mod Examples

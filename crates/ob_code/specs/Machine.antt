@@ -1,30 +1,28 @@
 -- What each instruction does, and a run of instructions. `a` is the word that is written; `b` and `c` are words that are read.
 -- Where an instruction may end the run for want of a step and in another way, the step is tested first.
-use Rattle.std.specs.Prelude.{ℕ, zero, suc, ◌+◌, ◌-◌, ◌*◌, ◌%◌, ◌^◌, Bool, true, false, ◌==◌, ℤ, pos, ◌+ℤ◌, ◌*ℤ◌, unsigned_abs, List, [], ◌∷◌, ◌++◌, take, Option, Some, None, Result, Ok, Err, slice_get, slice_index_or, if◌then◌else◌}
+use Rattle.std.specs.Prelude.{ℕ, zero, suc, ◌+◌, ◌-◌, ◌*◌, ◌%◌, ◌^◌, Bool, true, false, ◌==◌, ℤ, pos, ◌+ℤ◌, ◌*ℤ◌, unsigned_abs, List, [], ◌∷◌, ◌++◌, Option, Some, None, Result, Ok, Err, slice_get, if◌then◌else◌}
 use Rattle.ob_words.specs.declared.types.BinOp.{BinOp}
 use Rattle.ob_words.specs.declared.types.BinOp.TheVariants.{Shl, Shr}
 use Rattle.ob_words.specs.declared.types.DivideByZero.{DivideByZero}
 use Rattle.ob_words.specs.declared.types.IntType.{IntType}
 use Rattle.ob_words.specs.declared.types.IntType.TheVariants.{Int, Long}
 use Rattle.ob_words.specs.Operators.{binary, compare}
-use Rattle.ob_words.specs.Words.{word, number, block}
+use Rattle.ob_words.specs.Words.{word, number}
 use Rattle.ob_model.specs.declared.endings.Ending.TheVariants.{Ended, Steps, Divide, Stack, Descriptors, Far, Spent, ReadFault}
 use Rattle.ob_model.specs.declared.strays.StrayEvent.{StrayEvent}
 use Rattle.ob_model.specs.declared.strays.Act.TheVariants as act
 use Rattle.ob_model.specs.declared.values.LoadKind.{LoadKind}
-use Rattle.ob_model.specs.Accesses.{bytes_of_kind, is_far, own_granules}
+use Rattle.ob_model.specs.Accesses.{bytes_of_kind, is_far}
 use Rattle.ob_model.specs.Endings.{InputEnd, closed, failed}
 use Rattle.ob_model.specs.Heap.{place_for}
 use Rattle.ob_model.specs.Manufactured.{place_after}
-use Rattle.ob_flat.specs.Memory.{with_zeros}
 use Rattle.ob_code.specs.declared.image.Image.{Image}
-use Rattle.ob_code.specs.declared.image.LocalRow.{LocalRow}
-use Rattle.ob_code.specs.declared.image.StaticRow.{StaticRow}
 use Rattle.ob_code.specs.declared.instructions.Instr.{Instr}
 use Rattle.ob_code.specs.declared.instructions.Instr.TheVariants.{Tick, Set, Move, Convert, Binary, Compare, Jump, JumpZero, JumpNonzero, Call, Return, Static, Local, Wipe, Load, Store, Slide, SlideBy, Shift, Same, Order, Difference, GetChar, PutChar, Malloc, Calloc, Free, Exit}
-use Rattle.ob_code.specs.Allocation.{Freeing, no_effect, dies, stray, allocated_at, place_word, freeing, freed}
-use Rattle.ob_code.specs.Accesses.{Access, too_far, direct, own, outside, vanishing, access, read_memory, read_outside, after_outside_load, after_outside_store, after_direct_store, made_word, stray_event}
-use Rattle.ob_code.specs.Frames.{function_at, top_base, top_function, frame_word, with_word, words_from, with_words, is_full, entered, left_call}
+use Rattle.ob_code.specs.Allocation.{Freeing, allocated_at, place_word, freeing, free_event, space_after_free}
+use Rattle.ob_code.specs.Accesses.{Access, too_far, access, event_of, found_word, space_after_load, space_after_store, made_word}
+use Rattle.ob_code.specs.Frames.{function_at, frame_word, with_word, words_from, with_words, is_full, entered, left_call}
+use Rattle.ob_code.specs.Layout.{static_base, local_base, wiped}
 use Rattle.ob_code.specs.Pointers as pointers
 use Rattle.ob_code.specs.State as states
 use Rattle.ob_code.specs.State.{Setup, Space, State, Next, goes, stops, Final}
@@ -101,35 +99,11 @@ abbrev pub returned : Image → List states.Call → ℕ → State → Next
 returned image [] w s = stops (Ended (number Int w)) s
 returned image (c ∷ cs) w s = landed image.code c.link w cs (record s { space = left_call image.functions c cs s.space })
 
--- ---- objects
-
--- the base of a static object, numbered from 1: each lies at the end of the blocks before it
-abbrev pub blocks_of : List StaticRow → ℕ
-blocks_of [] = 0
-blocks_of (r ∷ rs) = block r.size + blocks_of rs
-
-abbrev pub static_base : List StaticRow → ℕ → ℕ
-static_base rows object = 4096 + blocks_of (take (object - 1) rows)
-
--- the base of a local object of the innermost call
-abbrev pub no_local : LocalRow
-no_local = record { ordinal = 0; place = 0; size = 0 }
-
-abbrev pub local_at : Image → Space → ℕ → LocalRow
-local_at image s i = slice_index_or (top_function image.functions s.calls).locals i no_local
-
-abbrev pub local_base : Image → Space → ℕ → ℕ
-local_base image s i = top_base s.calls + (local_at image s i).place
-
--- its own granules become zero bytes
-abbrev pub wiped : Image → ℕ → Space → Space
-wiped image i s =
-    record s { memory = with_zeros s.memory (local_base image s i) (8 * own_granules (local_at image s i).size) }
-
 -- ---- accesses
 
-abbrev pub told : StrayEvent → State → State
-told e s = record s { events = s.events ++ e ∷ [] }
+abbrev pub told : Option StrayEvent → State → State
+told None s = s
+told (Some e) s = record s { events = s.events ++ e ∷ [] }
 
 -- a load takes the next manufactured value
 abbrev pub set_made : Setup → LoadKind → ℕ → State → Next
@@ -140,26 +114,22 @@ abbrev pub set_or_made : Option ℕ → Setup → LoadKind → ℕ → State →
 set_or_made None u kind a s = set_made u kind a s
 set_or_made (Some w) u kind a s = set_word s a w
 
+abbrev pub loaded : Access → Setup → LoadKind → ℕ → ℕ → State → Next
+loaded x u kind line a s =
+    set_or_made (found_word x kind s.space) u kind a
+    (record (told (event_of x line act.Load (bytes_of_kind kind)) s) { space = space_after_load x s.space })
+
 abbrev pub load : Access → Setup → LoadKind → ℕ → ℕ → State → Next
 load too_far u kind line a s = stops Far s
-load (direct address) u kind line a s = set_word s a (read_memory kind s.space.memory address)
-load (own object offset address) u kind line a s =
-    set_word (told (stray_event line act.Load object offset (bytes_of_kind kind)) s) a (read_memory kind s.space.memory address)
-load (outside object offset) u kind line a s =
-    set_or_made (read_outside kind object offset s.space) u kind a
-    (record (told (stray_event line act.Load object offset (bytes_of_kind kind)) s) { space = after_outside_load object offset s.space })
-load (vanishing object offset) u kind line a s =
-    set_made u kind a (told (stray_event line act.Load object offset (bytes_of_kind kind)) s)
+load x u kind line a s = loaded x u kind line a s
+
+abbrev pub stored : Access → Setup → LoadKind → ℕ → ℕ → State → State
+stored x u kind line w s =
+    record (told (event_of x line act.Store (bytes_of_kind kind)) s) { space = space_after_store x u.settings.store kind w s.space }
 
 abbrev pub store : Access → Setup → LoadKind → ℕ → ℕ → State → Next
 store too_far u kind line w s = stops Far s
-store (direct address) u kind line w s = goes (on (record s { space = after_direct_store kind address w s.space }))
-store (own object offset address) u kind line w s =
-    goes (on (record (told (stray_event line act.Store object offset (bytes_of_kind kind)) s) { space = after_direct_store kind address w s.space }))
-store (outside object offset) u kind line w s =
-    goes (on (record (told (stray_event line act.Store object offset (bytes_of_kind kind)) s) { space = after_outside_store u.settings.store kind object offset w s.space }))
-store (vanishing object offset) u kind line w s =
-    goes (on (told (stray_event line act.Store object offset (bytes_of_kind kind)) s))
+store x u kind line w s = goes (on (stored x u kind line w s))
 
 -- ---- pointers
 
@@ -191,9 +161,7 @@ abbrev pub allocate : Option ℕ → ℕ → ℕ → State → Next
 allocate place n a s = set_word (record s { space = allocated_at place n s.space }) a (place_word place)
 
 abbrev pub free : Freeing → ℕ → State → Next
-free no_effect line s = goes (on s)
-free (dies e) line s = goes (on (record s { space = freed e s.space }))
-free (stray e offset) line s = goes (on (told (stray_event line act.Free e.object offset 0) s))
+free x line s = goes (on (record (told (free_event x line) s) { space = space_after_free x s.space }))
 
 -- ---- the instructions; outside the code a run ends
 
@@ -223,9 +191,9 @@ act_on u (Some (Call a b imm)) s = ticked s.steps s (λ t. calling u.image (unsi
 act_on u (Some (Return b)) s = returned u.image s.space.calls (get s b) s
 -- a becomes the base of a static object, and of a local one
 act_on u (Some (Static a imm)) s = set_word s a (static_base u.image.statics (unsigned_abs imm))
-act_on u (Some (Local a imm)) s = set_word s a (local_base u.image s.space (unsigned_abs imm))
+act_on u (Some (Local a imm)) s = set_word s a (local_base u.image.functions s.space (unsigned_abs imm))
 -- the granules of a local object become zero bytes
-act_on u (Some (Wipe imm)) s = goes (on (record s { space = wiped u.image (unsigned_abs imm) s.space }))
+act_on u (Some (Wipe imm)) s = goes (on (record s { space = wiped u.image.functions (unsigned_abs imm) s.space }))
 -- a becomes what a checked load gives through b, displaced by the `long` c; a checked store writes a there
 act_on u (Some (Load kind line a b c)) s =
     load (access u.settings.mode s.space (get s b) (get_number Long s c) (bytes_of_kind kind)) u kind line a s

@@ -11,7 +11,7 @@ use Rattle.ob_code.specs.declared.image.StaticRow.{StaticRow}
 use Rattle.ob_code.specs.declared.instructions.Instr.{Instr}
 use Rattle.ob_code.specs.declared.instructions.Instr.TheVariants.{Tick, Set, Move, Convert, Binary, Compare, Jump, JumpZero, JumpNonzero, Call, Return, Static, Local, Wipe, Load, Store, Slide, SlideBy, Shift, Same, Order, Difference, GetChar, PutChar, Malloc, Calloc, Free, Exit}
 use Rattle.ob_code.specs.Frames.{function_at, words_end, local_end, frame_length}
-use Rattle.ob_code.specs.Machine.{blocks_of, no_local}
+use Rattle.ob_code.specs.Layout.{static_blocks, no_local}
 
 -- ---- static objects
 
@@ -26,7 +26,7 @@ pub record IsStaticSound (rows : List StaticRow) (i : ℕ) : Type 0 where
   pub size : (static_at rows i).size ≤ 4194304
   pub given : length (static_at rows i).given ≤ (static_at rows i).size
   pub last : 0 < length (static_at rows i).given → slice_index (static_at rows i).given (length (static_at rows i).given - 1) ≢ 0
-  pub fits : blocks_of (take (i + 1) rows) ≤ 4194304
+  pub fits : static_blocks (take (i + 1) rows) ≤ 4194304
 
 -- ---- pointers that static objects hold
 

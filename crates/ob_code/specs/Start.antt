@@ -10,7 +10,8 @@ use Rattle.ob_flat.specs.Memory.{Memory, index, with_field, with_mark, zeroed}
 use Rattle.ob_code.specs.declared.image.Image.{Image}
 use Rattle.ob_code.specs.declared.image.PointerRow.{PointerRow}
 use Rattle.ob_code.specs.declared.image.StaticRow.{StaticRow}
-use Rattle.ob_code.specs.Machine.{after, blocks_of, entering, runs, static_base, ticked}
+use Rattle.ob_code.specs.Layout.{static_base, static_blocks}
+use Rattle.ob_code.specs.Machine.{after, entering, runs, ticked}
 use Rattle.ob_code.specs.State.{Setup, Space, State, Next, Final}
 
 -- bytes put at an address
@@ -49,7 +50,7 @@ with_static_pointers image s = record s { memory = with_pointers image.statics i
 abbrev pub laid_out : ℕ → Image → RunSettings → Space
 laid_out stack image settings =
     with_static_pointers image
-    (with_statics 4096 1 image.statics (empty_space (zeroed (blocks_of image.statics) stack settings.heap) (length image.statics + 1)))
+    (with_statics 4096 1 image.statics (empty_space (zeroed (static_blocks image.statics) stack settings.heap) (length image.statics + 1)))
 
 -- the state before anything is done
 abbrev pub fresh : Space → ℕ → List ℕ → ℕ → State

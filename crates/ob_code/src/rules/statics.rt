@@ -1,5 +1,5 @@
 ghost use Rattle.std.specs.Prelude.{◌≡◌, ◌≢◌, ◌+◌, ◌-◌, ◌<◌, ◌≤◌, ◌↔◌, IsTrue, length, slice_index, take};
-ghost use Rattle.ob_code.specs.Machine.{blocks_of};
+ghost use Rattle.ob_code.specs.Layout.{static_blocks};
 ghost use Rattle.ob_code.specs.Rules.{IsStaticSound, static_at};
 ghost use Rattle.ob_code.specs.FirstFault.{IsPartAnswer, IsStaticGood};
 
@@ -27,16 +27,16 @@ fn blocks_fit(rows: &[StaticRow], i: usize, size: u64, blocks: u64) -> bool
     requires row { i < length rows.now }
     requires size { size ≡ (static_at rows.now i).size }
     requires small { size ≤ 4194304 }
-    requires blocks { blocks ≡ blocks_of (take i rows.now) }
+    requires blocks { blocks ≡ static_blocks (take i rows.now) }
     requires few { blocks ≤ 4194304 }
-    ensures { IsTrue result ↔ (blocks_of (take (i + 1) rows.now) ≤ 4194304) }
+    ensures { IsTrue result ↔ (static_blocks (take (i + 1) rows.now) ≤ 4194304) }
 {
     blocks + block(size) <= MOST_BYTES
 }
 
 fn static_is_sound(rows: &[StaticRow], i: usize, blocks: u64) -> bool
     requires row { i < length rows.now }
-    requires blocks { blocks ≡ blocks_of (take i rows.now) }
+    requires blocks { blocks ≡ static_blocks (take i rows.now) }
     requires few { blocks ≤ 4194304 }
     ensures { IsTrue result ↔ IsStaticSound rows.now i }
 {
