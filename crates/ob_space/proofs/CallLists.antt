@@ -7,12 +7,12 @@ use Rattle.ob_flat.specs.Memory.{Memory}
 use Rattle.ob_code.specs.declared.image.FunctionRow.{FunctionRow}
 use Rattle.ob_code.specs.Frames.{allowances, end_of, frame_length, function_at, local_end, locals_end, next_base, top_base, top_function, words_end}
 use Rattle.ob_code.specs.declared.image.LocalRow.{LocalRow}
-use Rattle.ob_code.specs.Machine.{no_local}
+use Rattle.ob_code.specs.Layout.{no_local}
 use Rattle.ob_code.specs.Rules.{IsFrameSound}
 use Rattle.ob_code.specs.State.{Call, Space}
 use Rattle.ob_space.specs.declared.calls.Active.{Active}
 use Rattle.ob_space.specs.Calls.{AreStacked, call_in, calls_in}
-use Rattle.ob_space.specs.Kept.{IsRunnable}
+use Rattle.ob_space.specs.Kept.{CanBeCalled}
 use Rattle.ob_space.specs.Links.{AllHaveLinks, HasLinks, KeepsLinks}
 use Rattle.ob_space.specs.Writes.{IsOnStack, KeepsBelow}
 
@@ -43,7 +43,7 @@ frame_is_long f sound = omega (arith, sound.least_words)
 
 -- the functions of a verified image can be called
 abbrev pub AllRun : List FunctionRow → Type 0
-AllRun functions = (f : ℕ) → f < length functions → IsRunnable (function_at functions f)
+AllRun functions = (f : ℕ) → f < length functions → CanBeCalled (function_at functions f)
 
 ends_in_blocks : (words : ℕ) (locals : List LocalRow) → ((j : ℕ) → j < length locals → (slice_index_or locals j no_local).place % 16 ≡ 0) → max (words_end words) (locals_end locals) % 16 ≡ 0
 ends_in_blocks words [] each = omega arith
