@@ -1,5 +1,5 @@
 -- Writing a word, leaving a call, and beginning anew.
-use Rattle.std.proofs.Common.{◌≡◌, ℕ, ◌+◌, ◌*◌, List, [], ◌∷◌, ◌++◌, length, refl, ap, ◌∙◌, arith}
+use Rattle.std.proofs.Common.{◌≡◌, ℕ, ◌+◌, ◌*◌, ◌<◌, List, [], ◌∷◌, ◌++◌, length, refl, ap, ◌∙◌, arith}
 use Rattle.std.specs.Global.{Vec}
 use Rattle.ob_flat.specs.Memory.{Memory, with_field}
 use Rattle.ob_code.specs.declared.image.FunctionRow.{FunctionRow}
