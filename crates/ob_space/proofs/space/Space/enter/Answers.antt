@@ -2,7 +2,7 @@ use Rattle.std.proofs.Common.{◌≡◌, ◌+◌, ◌<◌, ◌≤◌, false, Lis
 use Rattle.std.proofs.lemmas.Bool.{le-ltb}
 use Rattle.ob_flat.specs.Memory.{Memory}
 use Rattle.ob_code.specs.declared.image.FunctionRow.{FunctionRow}
-use Rattle.ob_code.specs.Frames.{allowances, entered, function_at, is_full, top_base}
+use Rattle.ob_code.specs.Frames.{allowances, entered, frame_length, function_at, is_full, top_base}
 use Rattle.ob_code.specs.State.{Space}
 use Rattle.ob_space.specs.declared.calls.Active.{Active}
 use Rattle.ob_space.specs.Calls.{calls_in}
@@ -10,7 +10,7 @@ use Rattle.ob_space.specs.Kept.{space_in}
 use Rattle.ob_space.specs.Links.{AllHaveLinks}
 use Rattle.ob_space.specs.Loaded.{Loaded}
 use Rattle.ob_space.proofs.CallLists.{keeps_links, links_behind}
-use Rattle.ob_space.proofs.Entering.{HasPlace, call_of, has_place, entered_calls, entered_space, kept_entered}
+use Rattle.ob_space.proofs.Entering.{HasPlace, IsMeasured, IsOpen, call_of, has_place, entered_calls, entered_space, kept_entered}
 use Rattle.ob_space.proofs.space.Space.enter.Goals as goal
 
 pub returns-then-allowance-self-clause-links : goal.returns-then-allowance-self-clause-links
@@ -72,18 +72,35 @@ calls c =
 
 pub invariant_of-self : goal.invariant_of-self
 invariant_of-self c =
-    kept_entered c.self.inside.functions c.self.inside.settings.heap c.self.inside.flat c.open_frame.new.flat c.self.inside.calls c.add_call.new.calls c.self.inside.taken c.self.inside.end c.args.function c.args.link c.self.inside.next c.row_of-row.result.now c.frame_length-length.result (row c) c.frame_length-length.ensures c.self.invariant (known c) (room c) c.open_frame.ensures.stack (ap (λ (m : Memory). m.heap) c.open_frame.ensures.memory) c.open_frame.ensures.link (c.open_frame.ensures.caller ∙ caller c) (others c) (calls c) (omega (arith, c.add_call.ensures.capacity, c.self.invariant.capacity))
+    let opened : IsOpen c.self.inside.flat c.open_frame.new.flat c.self.inside.calls.items c.add_call.new.calls.items c.self.inside.end c.args.function c.args.link c.self.inside.next =
+    record {
+      stack = c.open_frame.ensures.stack;
+      heap = ap (λ (m : Memory). m.heap) c.open_frame.ensures.memory;
+      link = c.open_frame.ensures.link;
+      caller = c.open_frame.ensures.caller ∙ caller c;
+      others = others c;
+      calls = calls c;
+    } in
+    kept_entered c.self.inside.functions c.self.inside.settings.heap c.self.inside.flat c.open_frame.new.flat c.self.inside.calls c.add_call.new.calls c.self.inside.taken c.self.inside.end c.args.function c.args.link c.self.inside.next c.row_of-row.result.now c.frame_length-length.result (row c) c.frame_length-length.ensures c.self.invariant (known c) (room c) opened (omega (arith, c.add_call.ensures.capacity, c.self.invariant.capacity))
 
 not_full : (c : goal.After-self-3-1) → is_full c.self.inside.functions c.args.function (calls_in c.self.inside.flat c.self.inside.calls.items) ≡ false
 not_full c =
     le-ltb 1048576 ((function_at c.self.inside.functions c.args.function).allowance + allowances c.self.inside.functions (calls_in c.self.inside.flat c.self.inside.calls.items))
     (omega (arith, room c, ap (λ (r : FunctionRow). r.allowance) (row c), c.self.invariant.sum))
 
+measured : (c : goal.After-self-3-1) → IsMeasured c.self.inside.functions (calls_in c.self.inside.flat c.self.inside.calls.items) c.args.function c.self.inside.end c.frame_length-length.result c.top_base-caller.result c.from-vars.result
+measured c = record {
+  place = c.self.invariant.next;
+  length = c.frame_length-length.ensures ∙ ap frame_length (row c);
+  caller_base = caller c;
+  objects = c.from-vars.ensures ∙ ap (λ (r : FunctionRow). r.vars) (row c);
+}
+
 pub returns-clause-answer : goal.returns-clause-answer
 returns-clause-answer c =
     let seen : Space → Loaded = λ space. record { statics = []; pointers = []; functions = c.self.inside.functions; settings = c.self.inside.settings; space = space } in
     let space : space_in c.open_frame.new.flat c.add_call.new.calls.items (c.self.inside.next + c.from-vars.result) ≡ entered c.self.inside.functions c.args.function c.args.link (space_in c.self.inside.flat c.self.inside.calls.items c.self.inside.next) =
-    entered_space c.self.inside.functions c.self.inside.flat c.open_frame.new.flat c.self.inside.calls.items c.add_call.new.calls.items c.args.function c.args.link c.self.inside.next c.self.inside.end c.frame_length-length.result c.top_base-caller.result c.from-vars.result c.row_of-row.result.now (row c) (c.self.invariant.rows c.args.function (known c)).built c.self.invariant.next c.frame_length-length.ensures (caller c) c.from-vars.ensures c.open_frame.ensures.memory (calls c) in
+    entered_space c.self.inside.functions c.self.inside.flat c.open_frame.new.flat c.self.inside.calls.items c.add_call.new.calls.items c.args.function c.args.link c.self.inside.next c.self.inside.end c.frame_length-length.result c.top_base-caller.result c.from-vars.result (c.self.invariant.rows c.args.function (known c)).built (measured c) c.open_frame.ensures.memory (calls c) in
     rw (← c.self.view_is) (record { room = not_full c; space = ap seen space })
 
 pub returns-clause-links : goal.returns-clause-links
