@@ -11,8 +11,10 @@ pub use writing::write_image;
 
 mod faults;
 mod fields;
+mod fields_of;
 mod given;
 mod instructions;
+mod kinds;
 mod laws;
 mod layout;
 mod numbers;
