@@ -42,7 +42,7 @@ one_sound test (b ∷ bytes) x rest fits e =
 one_spelled : (test : ℕ → Bool) → IsSpelled (one test) (λ b. (test b ≡ true) × (b < 256)) (λ b. b ∷ [])
 one_spelled test = record { sound = one_sound test; again = λ b rest is. one_passes test b rest is.0 }
 
-both : (s t : Bool) → (s && t) ≡ true → (s ≡ true) × (t ≡ true)
+pub both : (s t : Bool) → (s && t) ≡ true → (s ≡ true) × (t ≡ true)
 both true true e = (refl, refl)
 both true false e = absurd cc
 both false t e = absurd cc

@@ -7,7 +7,7 @@ use Rattle.ob_code.specs.declared.instructions.Instr.TheVariants.{Tick, Set, Mov
 use Rattle.ob_image.specs.declared.layout.Fields.{Fields}
 use Rattle.ob_image.specs.Instructions.{instruction, instructions}
 use Rattle.ob_image.specs.Layout.{fields, fields_of, limits_of, all_limits, AreFields, HasNumber}
-use Rattle.ob_image.proofs.KindNumbers.{type_back, kind_back, operator_back, relation_back, up, type_again, kind_again, operator_again, relation_again}
+use Rattle.ob_image.proofs.KindNumbers.{type_back, kind_back, operator_back, relation_back, each_from, type_again, kind_again, operator_again, relation_again}
 
 pub instruction_back : (i : Instr) → HasNumber i → instruction (fields_of i) ≡ i
 unfolding instruction instructions
@@ -49,7 +49,7 @@ IsBack op =
     (kind line a b c imm : ℕ) → kind ≤ (limits_of op).kind → line ≤ (limits_of op).line → a ≤ (limits_of op).a → b ≤ (limits_of op).b → c ≤ (limits_of op).c
     → imm ≤ (limits_of op).imm → fields_of (instruction (fields op kind line a b c imm)) ≡ fields op kind line a b c imm
 
-none : (n : ℕ) → n ≤ 0 → 0 ≡ n
+pub none : (n : ℕ) → n ≤ 0 → 0 ≡ n
 none n le = omega arith
 
 back_1 : IsBack 1
@@ -166,7 +166,7 @@ back_28 kind line a b c imm hk hline ha hb hc hi = let k = none kind hk in let n
 
 back : (op : ℕ) → 1 ≤ op → op ≤ 28 → IsBack op
 back op ge le =
-    up IsBack 1 op ge back_1 (λ h2. up IsBack 2 op h2 back_2 (λ h3. up IsBack 3 op h3 back_3 (λ h4. up IsBack 4 op h4 back_4 (λ h5. up IsBack 5 op h5 back_5 (λ h6. up IsBack 6 op h6 back_6 (λ h7. up IsBack 7 op h7 back_7 (λ h8. up IsBack 8 op h8 back_8 (λ h9. up IsBack 9 op h9 back_9 (λ h10. up IsBack 10 op h10 back_10 (λ h11. up IsBack 11 op h11 back_11 (λ h12. up IsBack 12 op h12 back_12 (λ h13. up IsBack 13 op h13 back_13 (λ h14. up IsBack 14 op h14 back_14 (λ h15. up IsBack 15 op h15 back_15 (λ h16. up IsBack 16 op h16 back_16 (λ h17. up IsBack 17 op h17 back_17 (λ h18. up IsBack 18 op h18 back_18 (λ h19. up IsBack 19 op h19 back_19 (λ h20. up IsBack 20 op h20 back_20 (λ h21. up IsBack 21 op h21 back_21 (λ h22. up IsBack 22 op h22 back_22 (λ h23. up IsBack 23 op h23 back_23 (λ h24. up IsBack 24 op h24 back_24 (λ h25. up IsBack 25 op h25 back_25 (λ h26. up IsBack 26 op h26 back_26 (λ h27. up IsBack 27 op h27 back_27 (λ h28. up IsBack 28 op h28 back_28 (λ h29. absurd (omega (arith, le, h29))))))))))))))))))))))))))))))
+    each_from IsBack 1 28 (back_1, (back_2, (back_3, (back_4, (back_5, (back_6, (back_7, (back_8, (back_9, (back_10, (back_11, (back_12, (back_13, (back_14, (back_15, (back_16, (back_17, (back_18, (back_19, (back_20, (back_21, (back_22, (back_23, (back_24, (back_25, (back_26, (back_27, (back_28, tt)))))))))))))))))))))))))))) op ge (omega arith)
 
 pub fields_back : (f : Fields) → AreFields f → fields_of (instruction f) ≡ f
 fields_back f are = back f.op are.first are.last f.kind f.line f.a f.b f.c f.imm are.kind are.line are.a are.b are.c are.imm

@@ -8,12 +8,9 @@ use Rattle.ob_image.specs.Layout.{fields, fields_of, limits_of, spell_fields, sp
 use Rattle.ob_image.specs.Reading.{gives, number, operands_row, fields_row, instruction_row}
 use Rattle.ob_image.proofs.FieldLaws.{byte_field, word_field, long_field, operation_spelled, operation_reader}
 use Rattle.ob_image.proofs.FormLimits.{fields_are, narrow}
-use Rattle.ob_image.proofs.Forms.{instruction_back, fields_back}
+use Rattle.ob_image.proofs.Forms.{none, instruction_back, fields_back}
 use Rattle.ob_image.proofs.Readers.{IsBytes, IsReader, then_reader, gives_reader, number_reader, done, ok_is}
 use Rattle.ob_image.proofs.Spellings.{IsSpelled, then_sound, then_again, along, number_spelled}
-
-none : (n : ℕ) → n ≤ 0 → n ≡ 0
-none n le = omega arith
 
 operands_reader : (op kind : ℕ) → IsReader (operands_row op kind)
 unfolding operands_row
@@ -109,7 +106,7 @@ fields_sound bytes x rest fits e =
     let t = operands_sound o.value k.value o.is.0 o.is.1 z.middle x rest z.are_bytes z.goes in (
       fields_form o.value k.value x o.is.0 o.is.1 k.is t.0,
       fields_text x bytes o.middle k.middle z.middle rest (o.parts ∙ ap (λ (v : ℕ). low_bytes 1 v ++ o.middle) (sym t.0.is_op)) (k.parts ∙ ap (λ (v : ℕ). low_bytes 1 v ++ k.middle) (sym t.0.is_kind))
-          (z.parts ∙ ap (λ (v : ℕ). low_bytes 2 v ++ z.middle) (none z.value z.is)) t.1,
+          (z.parts ∙ ap (λ (v : ℕ). low_bytes 2 v ++ z.middle) (sym (none z.value z.is))) t.1,
     )
 
 fields_again : (x : Fields) (rest : List ℕ) → AreFields x → fields_row (spell_fields x ++ rest) ≡ Ok (x, rest)

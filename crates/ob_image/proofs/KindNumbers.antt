@@ -1,5 +1,5 @@
 -- Types, operators and relations have their numbers back, and numbers within a limit their values.
-use Rattle.std.proofs.Common.{◌≡◌, ℕ, suc, ◌≤◌, refl, subst, arith, inl, inr}
+use Rattle.std.proofs.Common.{◌≡◌, ℕ, zero, suc, ◌+◌, ◌<◌, ◌≤◌, refl, subst, arith, inl, inr}
 use Rattle.std.proofs.lemmas.Bool.{cases_lt}
 use Rattle.ob_words.specs.declared.types.IntType.{IntType}
 use Rattle.ob_words.specs.declared.types.IntType.TheVariants.{Char, SChar, UChar, Short, UShort, Int, UInt, Long, ULong, LLong, ULLong}
@@ -68,36 +68,34 @@ relation_back Ne = refl
 
 -- ---- from the number to the value and back: by cases on each number up to a limit
 
-pub up : (P : ℕ → Type 0) (k n : ℕ) → k ≤ n → P k → (suc k ≤ n → P n) → P n
-up P k n le here more =
+-- what holds of so many numbers from one on holds of each
+abbrev pub AllFrom : (ℕ → Type 0) → ℕ → ℕ → Type 0
+AllFrom P k zero = Unit {0}
+AllFrom P k (suc count) = P k × AllFrom P (suc k) count
+
+pub each_from : (P : ℕ → Type 0) (k count : ℕ) → AllFrom P k count → (n : ℕ) → k ≤ n → n < k + count → P n
+each_from P k zero all n ge lt = absurd (omega arith)
+each_from P k (suc count) all n ge lt =
     elim (cases_lt k n) [
-      | inl lt ↦ more (omega arith)
-      | inr ge ↦ let e : k ≡ n = omega arith in subst P e here
+      | inl more ↦ each_from P (suc k) count all.1 n (omega arith) (omega arith)
+      | inr here ↦ let e : k ≡ n = omega arith in subst P e all.0
     ]
 
 pub type_again : (n : ℕ) → n ≤ 10 → type_number (integer_type n) ≡ n
 unfolding integer_type integer_types
-type_again n le =
-    let P : ℕ → Type 0 = λ n. type_number (integer_type n) ≡ n in
-    up P 0 n (omega arith) refl (λ h1. up P 1 n h1 refl (λ h2. up P 2 n h2 refl (λ h3. up P 3 n h3 refl (λ h4. up P 4 n h4 refl (λ h5. up P 5 n h5 refl (λ h6. up P 6 n h6 refl (λ h7. up P 7 n h7 refl (λ h8. up P 8 n h8 refl (λ h9. up P 9 n h9 refl (λ h10. up P 10 n h10 refl (λ h11. absurd (omega (arith, le, h11)))))))))))))
+type_again n le = each_from (λ n. type_number (integer_type n) ≡ n) 0 11 (refl, (refl, (refl, (refl, (refl, (refl, (refl, (refl, (refl, (refl, (refl, tt))))))))))) n (omega arith) (omega arith)
 
 pub kind_again : (n : ℕ) → n ≤ 11 → kind_number (load_kind n) ≡ n
 unfolding load_kind
-kind_again n le =
-    let P : ℕ → Type 0 = λ n. kind_number (load_kind n) ≡ n in
-    up P 0 n (omega arith) refl (λ h1. up P 1 n h1 refl (λ h2. up P 2 n h2 refl (λ h3. up P 3 n h3 refl (λ h4. up P 4 n h4 refl (λ h5. up P 5 n h5 refl (λ h6. up P 6 n h6 refl (λ h7. up P 7 n h7 refl (λ h8. up P 8 n h8 refl (λ h9. up P 9 n h9 refl (λ h10. up P 10 n h10 refl (λ h11. up P 11 n h11 refl (λ h12. absurd (omega (arith, le, h12))))))))))))))
+kind_again n le = each_from (λ n. kind_number (load_kind n) ≡ n) 0 12 (refl, (refl, (refl, (refl, (refl, (refl, (refl, (refl, (refl, (refl, (refl, (refl, tt)))))))))))) n (omega arith) (omega arith)
 
 pub operator_again : (n : ℕ) → n ≤ 9 → operator_number (operator n) ≡ n
 unfolding operator operators
-operator_again n le =
-    let P : ℕ → Type 0 = λ n. operator_number (operator n) ≡ n in
-    up P 0 n (omega arith) refl (λ h1. up P 1 n h1 refl (λ h2. up P 2 n h2 refl (λ h3. up P 3 n h3 refl (λ h4. up P 4 n h4 refl (λ h5. up P 5 n h5 refl (λ h6. up P 6 n h6 refl (λ h7. up P 7 n h7 refl (λ h8. up P 8 n h8 refl (λ h9. up P 9 n h9 refl (λ h10. absurd (omega (arith, le, h10))))))))))))
+operator_again n le = each_from (λ n. operator_number (operator n) ≡ n) 0 10 (refl, (refl, (refl, (refl, (refl, (refl, (refl, (refl, (refl, (refl, tt)))))))))) n (omega arith) (omega arith)
 
 pub relation_again : (n : ℕ) → n ≤ 5 → relation_number (relation n) ≡ n
 unfolding relation relations
-relation_again n le =
-    let P : ℕ → Type 0 = λ n. relation_number (relation n) ≡ n in
-    up P 0 n (omega arith) refl (λ h1. up P 1 n h1 refl (λ h2. up P 2 n h2 refl (λ h3. up P 3 n h3 refl (λ h4. up P 4 n h4 refl (λ h5. up P 5 n h5 refl (λ h6. absurd (omega (arith, le, h6))))))))
+relation_again n le = each_from (λ n. relation_number (relation n) ≡ n) 0 6 (refl, (refl, (refl, (refl, (refl, (refl, tt)))))) n (omega arith) (omega arith)
 
 -- ---- the greatest numbers
 

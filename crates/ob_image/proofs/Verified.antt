@@ -8,7 +8,7 @@ use Rattle.ob_code.specs.declared.image.FunctionRow.{FunctionRow}
 use Rattle.ob_code.specs.declared.image.Image.{Image}
 use Rattle.ob_code.specs.declared.instructions.Instr.{Instr}
 use Rattle.ob_code.specs.declared.instructions.Instr.TheVariants.{Tick, Set, Move, Convert, Binary, Compare, Jump, JumpZero, JumpNonzero, Call, Return, Static, Local, Wipe, Load, Store, Slide, SlideBy, Shift, Same, Order, Difference, GetChar, PutChar, Malloc, Calloc, Free, Exit}
-use Rattle.ob_code.specs.Frames.{function_at, no_function}
+use Rattle.ob_code.specs.Frames.{no_function}
 use Rattle.ob_code.specs.Rules.{IsVerified, AreFunctionsSound, IsFrameSound, IsCodeOf, AreOperandsSound, instruction_at, local_at, no_static}
 use Rattle.ob_code.proofs.CodeRanges.{code_end_cases}
 use Rattle.ob_image.specs.Layout.{any_word, IsInstruction}
@@ -40,6 +40,9 @@ one_more P xs i d lt h last =
 
 -- ---- static objects and functions
 
+abbrev row_at : Image → ℕ → FunctionRow
+row_at image f = slice_index_or image.functions f no_function
+
 static_rules : (image : Image) → IsVerified image → AllByRecursion StaticRule image.statics
 static_rules image v = all_rows StaticRule no_static image.statics (λ i lt. let s = v.statics.each i lt in (omega (arith, s.given, s.size), s.last))
 
@@ -62,7 +65,7 @@ locals_most f sound =
     ]
 
 function_rules : (image : Image) → IsVerified image → AllByRecursion FunctionRule image.functions
-function_rules image v = all_rows FunctionRule no_function image.functions (λ i lt. locals_most (function_at image i) (v.functions.rows.each i lt).frame)
+function_rules image v = all_rows FunctionRule no_function image.functions (λ i lt. locals_most (row_at image i) (v.functions.rows.each i lt).frame)
 
 -- ---- code
 
@@ -71,7 +74,7 @@ record Holder (image : Image) (i : ℕ) : Type 0 where
   function : ℕ
   holds : IsCodeOf image function i
 
-holder_from : (image : Image) (i : ℕ) → i < length image.code → (more f : ℕ) → f + suc more ≡ length image.functions → (function_at image f).entry ≤ i → Holder image i
+holder_from : (image : Image) (i : ℕ) → i < length image.code → (more f : ℕ) → f + suc more ≡ length image.functions → (row_at image f).entry ≤ i → Holder image i
 holder_from image i lt zero f e after =
     elim (code_end_cases image f) [
       | inl w ↦ absurd (omega (arith, w.0))
@@ -80,7 +83,7 @@ holder_from image i lt zero f e after =
 holder_from image i lt (suc more) f e after =
     elim (code_end_cases image f) [
       | inl w ↦
-          elim (cases_lt i (function_at image (f + 1)).entry) [
+          elim (cases_lt i (row_at image (f + 1)).entry) [
             | inl before ↦ record { function = f; holds = record { is_function = omega arith; after_entry = after; before_end = omega (arith, w.1) } }
             | inr behind ↦ holder_from image i lt more (f + 1) (omega arith) behind
           ]
@@ -89,7 +92,7 @@ holder_from image i lt (suc more) f e after =
 
 holder : (image : Image) → AreFunctionsSound image → (i : ℕ) → i < length image.code → Holder image i
 holder image sound i lt =
-    let first : (function_at image 0).entry ≡ 0 = (sound.rows.each 0 sound.some).entry.first refl in
+    let first : (row_at image 0).entry ≡ 0 = (sound.rows.each 0 sound.some).entry.first refl in
     holder_from image i lt (length image.functions - 1) 0 (omega (arith, sound.some)) (omega (arith, first))
 
 ordering : (image : Image) (f : ℕ) (i : Instr) → AreOperandsSound image f i → InstructionRule i
