@@ -1,7 +1,7 @@
--- Checked loads and stores. An access goes its course by what its pointer names, its displacement and its size: too far, at an
--- address of the object, or astray. A stray access is told first. Then it vanishes in oblivious mode, through null, and where
+-- Checked loads and stores. What becomes of an access depends on what its pointer names, its displacement and its size: it is
+-- too far, at an address of the object, or astray. A stray access is told first. Then it vanishes in oblivious mode, through null, and where
 -- it is ill aligned; in boundless mode it goes on at a granule of the object's own, or at one outside of the object.
-use Rattle.std.specs.Prelude.{ℕ, ◌+◌, ◌-◌, ◌/◌, ◌%◌, Bool, true, false, ℤ, ◌+ℤ◌, unsigned_abs, Option, Some, None, unwrap_or, if◌then◌else◌}
+use Rattle.std.specs.Prelude.{ℕ, List, ◌+◌, ◌-◌, ◌/◌, ◌%◌, true, ℤ, ◌+ℤ◌, unsigned_abs, Option, Some, None, unwrap_or, if◌then◌else◌}
 use Rattle.std.specs.Option.{option_map}
 use Rattle.ob_words.specs.declared.types.IntType.{IntType}
 use Rattle.ob_words.specs.Fields.{low_bytes}
@@ -9,52 +9,44 @@ use Rattle.ob_words.specs.Types.{width}
 use Rattle.ob_words.specs.Words.{word, number}
 use Rattle.ob_model.specs.declared.objects.Entry.{Entry}
 use Rattle.ob_model.specs.declared.settings.Mode.{Mode}
-use Rattle.ob_model.specs.declared.settings.Mode.TheVariants.{Oblivious, Boundless}
 use Rattle.ob_model.specs.declared.strays.Act.{Act}
 use Rattle.ob_model.specs.declared.strays.StrayEvent.{StrayEvent}
 use Rattle.ob_model.specs.declared.values.LoadKind.{LoadKind}
 use Rattle.ob_model.specs.declared.values.LoadKind.TheVariants.{Num, Ptr}
-use Rattle.ob_model.specs.Accesses.{is_aligned, is_far, is_inside, is_own, granule, place_in_granule}
+use Rattle.ob_model.specs.Accesses as reaches
+use Rattle.ob_model.specs.Accesses.{is_far, granule, place_in_granule, Reach, reach}
 use Rattle.ob_model.specs.Bounded.{listed_cell, after_load, after_store}
 use Rattle.ob_model.specs.Cells.{Content, pointer, unset, read_number, read_pointer, written}
+use Rattle.ob_model.specs.Manufactured.{manufactured_number}
+use Rattle.ob_model.specs.Settings.{keeps_strays}
 use Rattle.ob_flat.specs.Memory.{Memory, field, with_field, has_mark, with_mark, with_zeros}
 use Rattle.ob_code.specs.Pointers.{Target, nothing, into, resolve}
 use Rattle.ob_code.specs.State.{Space}
 
-pub data Course : Type 0 where
-  too_far : Course
-  direct : (address : ℕ) → Course
-  own : (object : ℕ) (offset : ℤ) (address : ℕ) → Course
-  outside : (object : ℕ) (offset : ℤ) → Course
-  vanishing : (object : ℕ) (offset : ℤ) → Course
+pub data Access : Type 0 where
+  too_far : Access
+  direct : (address : ℕ) → Access
+  own : (object : ℕ) (offset : ℤ) (address : ℕ) → Access
+  outside : (object : ℕ) (offset : ℤ) → Access
+  vanishing : (object : ℕ) (offset : ℤ) → Access
 
--- an aligned access in boundless mode, by whether its granule is the object's own
-abbrev pub boundless_course : Bool → Entry → ℤ → Course
-boundless_course true e offset = own e.object offset (e.base + unsigned_abs offset)
-boundless_course false e offset = outside e.object offset
+-- an access of an object, by how far it reaches
+abbrev pub access_by : Reach → Entry → ℤ → Access
+access_by reaches.inside e offset = direct (e.base + unsigned_abs offset)
+access_by reaches.own e offset = own e.object offset (e.base + unsigned_abs offset)
+access_by reaches.outside e offset = outside e.object offset
+access_by reaches.vanishing e offset = vanishing e.object offset
 
-abbrev pub stray_course : Mode → Bool → Entry → ℤ → Course
-stray_course Oblivious aligned e offset = vanishing e.object offset
-stray_course Boundless false e offset = vanishing e.object offset
-stray_course Boundless true e offset = boundless_course (is_own e.size offset) e offset
-
--- an access of an object, by whether it is aligned and whether it is inside
-abbrev pub object_course : Mode → Bool → Bool → Entry → ℤ → Course
-object_course mode true true e offset = direct (e.base + unsigned_abs offset)
-object_course mode true false e offset = stray_course mode true e offset
-object_course mode false inside e offset = stray_course mode false e offset
-
-abbrev pub course_in : Mode → Entry → ℤ → ℕ → Course
-course_in mode e offset k =
-    if is_far offset then too_far else object_course mode (is_aligned offset k) (is_inside e.size offset k) e offset
+abbrev pub access_in : Mode → Entry → ℤ → ℕ → Access
+access_in mode e offset k = if is_far offset then too_far else access_by (reach (keeps_strays mode) e.size offset k) e offset
 
 -- through null the object is 0 and the offset is the displacement
-abbrev pub course_to : Mode → Target → ℤ → ℕ → Course
-course_to mode nothing d k = vanishing 0 d
-course_to mode (into e offset) d k = course_in mode e (offset +ℤ d) k
+abbrev pub access_to : Mode → Target → ℤ → ℕ → Access
+access_to mode nothing d k = vanishing 0 d
+access_to mode (into e offset) d k = access_in mode e (offset +ℤ d) k
 
-abbrev pub course : Mode → Space → ℕ → ℤ → ℕ → Course
-course mode s w d k = if is_far d then too_far else course_to mode (resolve s w) d k
+abbrev pub access : Mode → Space → ℕ → ℤ → ℕ → Access
+access mode s w d k = if is_far d then too_far else access_to mode (resolve s w) d k
 
 -- the word of a number's type that a number stands for
 abbrev pub number_word : IntType → ℕ → ℕ
@@ -99,13 +91,45 @@ after_outside_store cap kind object offset w s =
     record s { outside = after_store cap object (granule offset) (write_cell kind offset w (unwrap_or (listed_cell object (granule offset) s.outside) unset)) s.outside }
 
 -- a manufactured value as a load of this kind gives it
-abbrev pub made_word : LoadKind → ℕ → ℕ
-made_word (Num t) n = number_word t n
-made_word Ptr n = 0
+abbrev pub made_word : LoadKind → List ℕ → ℕ → ℕ
+made_word (Num t) cycle place = word (manufactured_number t cycle place)
+made_word Ptr cycle place = 0
 
 abbrev pub stray_event : ℕ → Act → ℕ → ℤ → ℕ → StrayEvent
 stray_event line act object offset size = record { line = line; act = act; object = object; offset = offset; size = size }
 
--- the space after a store at an address
 abbrev pub after_direct_store : LoadKind → ℕ → ℕ → Space → Space
 after_direct_store kind address w s = record s { memory = write_memory kind s.memory address w }
+
+-- ---- what an access does
+
+-- the event of an access that goes astray
+abbrev pub event_of : Access → ℕ → Act → ℕ → Option StrayEvent
+event_of too_far line act size = None
+event_of (direct address) line act size = None
+event_of (own object offset address) line act size = Some (stray_event line act object offset size)
+event_of (outside object offset) line act size = Some (stray_event line act object offset size)
+event_of (vanishing object offset) line act size = Some (stray_event line act object offset size)
+
+-- the word that a load finds, or none where it takes the next manufactured value
+abbrev pub found_word : Access → LoadKind → Space → Option ℕ
+found_word too_far kind s = None
+found_word (direct address) kind s = Some (read_memory kind s.memory address)
+found_word (own object offset address) kind s = Some (read_memory kind s.memory address)
+found_word (outside object offset) kind s = read_outside kind object offset s
+found_word (vanishing object offset) kind s = None
+
+-- the space after a load, and after a store of a word
+abbrev pub space_after_load : Access → Space → Space
+space_after_load too_far s = s
+space_after_load (direct address) s = s
+space_after_load (own object offset address) s = s
+space_after_load (outside object offset) s = after_outside_load object offset s
+space_after_load (vanishing object offset) s = s
+
+abbrev pub space_after_store : Access → ℕ → LoadKind → ℕ → Space → Space
+space_after_store too_far cap kind w s = s
+space_after_store (direct address) cap kind w s = after_direct_store kind address w s
+space_after_store (own object offset address) cap kind w s = after_direct_store kind address w s
+space_after_store (outside object offset) cap kind w s = after_outside_store cap kind object offset w s
+space_after_store (vanishing object offset) cap kind w s = s
