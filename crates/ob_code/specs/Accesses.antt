@@ -1,6 +1,7 @@
 -- Checked loads and stores. What becomes of an access depends on what its pointer names, its displacement and its size: it is
--- too far, at an address of the object, or astray. A stray access is told first. Then it vanishes in oblivious mode, through null, and where
--- it is ill aligned; in boundless mode it goes on at a granule of the object's own, or at one outside of the object.
+-- too far, at an address of the object, or astray. A stray access is told first. Then it vanishes in oblivious mode, through
+-- null, and where it is ill aligned; in boundless mode it goes on at a granule of the object's own, or at one outside of the
+-- object.
 use Rattle.std.specs.Prelude.{ℕ, List, ◌+◌, ◌-◌, ◌/◌, ◌%◌, true, ℤ, ◌+ℤ◌, unsigned_abs, Option, Some, None, unwrap_or, if◌then◌else◌}
 use Rattle.std.specs.Option.{option_map}
 use Rattle.ob_words.specs.declared.types.IntType.{IntType}

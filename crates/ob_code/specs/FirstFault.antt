@@ -15,24 +15,24 @@ pub record IsRunnable (image : Image) : Type 0 where
 
 -- ---- rows
 
-abbrev pub IsStaticGood : Image → ℕ → Type 0
-IsStaticGood image i = IsStaticSound image.statics i × IsStaticBuilt
+abbrev pub IsStaticRunnable : Image → ℕ → Type 0
+IsStaticRunnable image i = IsStaticSound image.statics i × IsStaticBuilt
 
-abbrev pub IsFunctionGood : Image → ℕ → Type 0
-IsFunctionGood image i = IsFunctionSound image i × IsFunctionBuilt image i
+abbrev pub IsFunctionRunnable : Image → ℕ → Type 0
+IsFunctionRunnable image i = IsFunctionSound image i × IsFunctionBuilt image i
 
-abbrev pub IsCodeGood : Image → ℕ → Type 0
-IsCodeGood image i = IsCodeSound image i × IsCodeBuilt image i
+abbrev pub IsCodeRunnable : Image → ℕ → Type 0
+IsCodeRunnable image i = IsCodeSound image i × IsCodeBuilt image i
 
-abbrev pub AreStaticsGood : Image → Type 0
-AreStaticsGood image = AreSound 262144 (length image.statics) (IsStaticGood image)
+abbrev pub AreStaticsRunnable : Image → Type 0
+AreStaticsRunnable image = AreSound 262144 (length image.statics) (IsStaticRunnable image)
 
-pub record AreFunctionsGood (image : Image) : Type 0 where
+pub record AreFunctionsRunnable (image : Image) : Type 0 where
   pub some : 0 < length image.functions
-  pub rows : AreSound 65536 (length image.functions) (IsFunctionGood image)
+  pub rows : AreSound 65536 (length image.functions) (IsFunctionRunnable image)
 
-abbrev pub IsAllCodeGood : Image → Type 0
-IsAllCodeGood image = AreSound 1048576 (length image.code) (IsCodeGood image)
+abbrev pub IsAllCodeRunnable : Image → Type 0
+IsAllCodeRunnable image = AreSound 1048576 (length image.code) (IsCodeRunnable image)
 
 -- ---- the first fault
 
@@ -47,7 +47,7 @@ IsPartAnswer limit count Rule None = AreSound limit count Rule
 IsPartAnswer limit count Rule (Some at) = IsFaultAt limit count Rule at
 
 abbrev pub IsStaticFault : Image → ℕ → Type 0
-IsStaticFault image at = IsFaultAt 262144 (length image.statics) (IsStaticGood image) at
+IsStaticFault image at = IsFaultAt 262144 (length image.statics) (IsStaticRunnable image) at
 
 abbrev pub IsPointerFault : Image → ℕ → Type 0
 IsPointerFault image at = IsFaultAt 524288 (length image.pointers) (IsPointerSound image.statics image.pointers) at
@@ -55,24 +55,24 @@ IsPointerFault image at = IsFaultAt 524288 (length image.pointers) (IsPointerSou
 -- an image without a function is at fault at row 0
 abbrev pub IsFunctionFault : Image → ℕ → Type 0
 IsFunctionFault image at =
-    ((length image.functions ≡ 0) × (at ≡ 0)) ⊎ IsFaultAt 65536 (length image.functions) (IsFunctionGood image) at
+    ((length image.functions ≡ 0) × (at ≡ 0)) ⊎ IsFaultAt 65536 (length image.functions) (IsFunctionRunnable image) at
 
 abbrev pub IsMainFault : Image → ℕ → Type 0
 IsMainFault image at = (at ≡ 0) × ¬ IsMainSound image
 
 abbrev pub IsCodeFault : Image → ℕ → Type 0
-IsCodeFault image at = IsFaultAt 1048576 (length image.code) (IsCodeGood image) at
+IsCodeFault image at = IsFaultAt 1048576 (length image.code) (IsCodeRunnable image) at
 
 -- the parts before are sound, and this one is at fault at this row
 abbrev pub IsFaultIn : Part → Image → ℕ → Type 0
 IsFaultIn part.Bytes image at = ⊥
 IsFaultIn part.Static image at = IsStaticFault image at
-IsFaultIn part.Pointer image at = AreStaticsGood image × IsPointerFault image at
-IsFaultIn part.Function image at = AreStaticsGood image × ArePointersSound image × IsFunctionFault image at
+IsFaultIn part.Pointer image at = AreStaticsRunnable image × IsPointerFault image at
+IsFaultIn part.Function image at = AreStaticsRunnable image × ArePointersSound image × IsFunctionFault image at
 IsFaultIn part.Main image at =
-    AreStaticsGood image × ArePointersSound image × AreFunctionsGood image × IsMainFault image at
+    AreStaticsRunnable image × ArePointersSound image × AreFunctionsRunnable image × IsMainFault image at
 IsFaultIn part.Code image at =
-    AreStaticsGood image × ArePointersSound image × AreFunctionsGood image × IsMainSound image × IsCodeFault image at
+    AreStaticsRunnable image × ArePointersSound image × AreFunctionsRunnable image × IsMainSound image × IsCodeFault image at
 
 abbrev pub IsFirstFault : Image → BadImage → Type 0
 IsFirstFault image bad = IsFaultIn bad.part image bad.at

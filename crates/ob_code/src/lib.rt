@@ -12,6 +12,7 @@ pub use laws::{
     law_stray_runs,
 };
 pub use rows::Rows;
+pub use rules::functions::frame_length;
 pub use verified::{Verified, verify};
 
 mod faults;

@@ -2,7 +2,7 @@ ghost use Rattle.std.specs.Prelude.{◌≡◌, ◌+◌, ◌<◌, ◌≤◌, ◌�
 ghost use Rattle.ob_code.specs.Frames.{function_at};
 ghost use Rattle.ob_code.specs.Rules.{IsCodeOf, AreFunctionsSound, code_end, words_of, IsWritten, IsPlaceOf, IsBelow, IsBetween, IsOrdering, IsLast, AreOperandsSound, IsInstructionSound};
 ghost use Rattle.ob_code.specs.Unbuilt.{IsCodeBuilt};
-ghost use Rattle.ob_code.specs.FirstFault.{IsPartAnswer, IsCodeGood};
+ghost use Rattle.ob_code.specs.FirstFault.{IsPartAnswer, IsCodeRunnable};
 
 use crate::image::Image;
 use crate::instructions::Instr;
@@ -155,7 +155,7 @@ fn instruction_is_sound(image: &Image, f: usize, i: usize) -> bool
     goes_on && operands_are_sound(image, f, instr)
 }
 
-fn instruction_is_good(image: &Image, f: usize, i: usize) -> bool
+fn instruction_is_runnable(image: &Image, f: usize, i: usize) -> bool
     requires function { f < length image.now.functions }
     requires place { i < length image.now.code }
     ensures { IsTrue result ↔ (IsInstructionSound image.now f i × IsCodeBuilt image.now i) }
@@ -178,7 +178,7 @@ fn holder(image: &Image, f: usize, i: usize) -> usize
 /// The first instruction that breaks a rule.
 pub fn code_fault(image: &Image) -> Option<u64>
     requires { AreFunctionsSound image.now }
-    ensures { IsPartAnswer 1048576 (length image.now.code) (IsCodeGood image.now) result }
+    ensures { IsPartAnswer 1048576 (length image.now.code) (IsCodeRunnable image.now) result }
 {
     let count = image.code.as_slice().len();
     if count > MOST_INSTRUCTIONS {
@@ -187,7 +187,7 @@ pub fn code_fault(image: &Image) -> Option<u64>
     let mut f = 0;
     for i in 0..count {
         f = holder(image, f, i);
-        if !instruction_is_good(image, f, i) {
+        if !instruction_is_runnable(image, f, i) {
             return Some(i as u64);
         }
     }

@@ -2,7 +2,7 @@ ghost use Rattle.std.specs.Prelude.{◌≡◌, ◌+◌, ◌<◌, ◌≤◌, ◌^
 ghost use Rattle.ob_words.specs.Words.{block};
 ghost use Rattle.ob_code.specs.Frames.{words_end, local_end, locals_end, frame_length, function_at};
 ghost use Rattle.ob_code.specs.Rules.{IsLocalSound, local_at, IsFrameSound, IsEntrySound, IsFunctionSound};
-ghost use Rattle.ob_code.specs.FirstFault.{AreFunctionsGood, IsFunctionFault};
+ghost use Rattle.ob_code.specs.FirstFault.{AreFunctionsRunnable, IsFunctionFault};
 
 use crate::image::{FunctionRow, Image, LocalRow};
 use crate::rules::unbuilt::function_is_built;
@@ -56,8 +56,9 @@ fn locals_are_sound(f: &FunctionRow) -> bool
     true
 }
 
-// How many bytes a frame has.
-fn frame_length(f: &FunctionRow) -> u128
+/// How many bytes a frame of this function has: its words, in whole blocks of 16 bytes, and the blocks of
+/// its local objects.
+pub fn frame_length(f: &FunctionRow) -> u128
     ensures { result ≡ frame_length f.now }
 {
     let end = match f.locals.as_slice().last() {
@@ -103,7 +104,7 @@ fn function_is_sound(image: &Image, i: usize) -> bool
 
 /// The first function row that breaks a rule: 0 where there is none.
 pub fn function_fault(image: &Image) -> Option<u64>
-    ensures { MatchOption result (AreFunctionsGood image.now) (IsFunctionFault image.now) }
+    ensures { MatchOption result (AreFunctionsRunnable image.now) (IsFunctionFault image.now) }
 {
     let count = image.functions.as_slice().len();
     if count == 0 {

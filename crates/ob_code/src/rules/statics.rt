@@ -1,7 +1,7 @@
 ghost use Rattle.std.specs.Prelude.{◌≡◌, ◌≢◌, ◌+◌, ◌-◌, ◌<◌, ◌≤◌, ◌↔◌, IsTrue, length, slice_index, take};
 ghost use Rattle.ob_code.specs.Layout.{static_blocks};
 ghost use Rattle.ob_code.specs.Rules.{IsStaticSound, static_at};
-ghost use Rattle.ob_code.specs.FirstFault.{IsPartAnswer, IsStaticGood};
+ghost use Rattle.ob_code.specs.FirstFault.{IsPartAnswer, IsStaticRunnable};
 
 use crate::image::{Image, StaticRow};
 use crate::rules::unbuilt::static_is_built;
@@ -51,7 +51,7 @@ fn static_is_sound(rows: &[StaticRow], i: usize, blocks: u64) -> bool
 /// The first static row that breaks a rule.
 #[tactic(auto, using(crate::proofs::Blocks::blocks_up_to))]
 pub fn static_fault(image: &Image) -> Option<u64>
-    ensures { IsPartAnswer 262144 (length image.now.statics) (IsStaticGood image.now) result }
+    ensures { IsPartAnswer 262144 (length image.now.statics) (IsStaticRunnable image.now) result }
 {
     let rows = image.statics.as_slice();
     if rows.len() > MOST_STATICS {

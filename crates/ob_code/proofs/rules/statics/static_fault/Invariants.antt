@@ -1,6 +1,6 @@
 use Rattle.std.proofs.Common.{◌≡◌, ℕ, ◌<◌, ◌≤◌, take}
 use Rattle.ob_code.specs.Layout.{static_blocks}
-use Rattle.ob_code.specs.FirstFault.{IsStaticGood}
+use Rattle.ob_code.specs.FirstFault.{IsStaticRunnable}
 use Rattle.ob_code.proofs.rules.statics.static_fault.Given as goal
 
 abbrev pub invariant-loop-i : goal.invariant-loop-i
@@ -8,5 +8,5 @@ invariant-loop-i l =
     record {
       blocks : l.blocks ≡ static_blocks (take l.i l.rows);
       few : l.blocks ≤ 4194304;
-      good : (k : ℕ) → k < l.i → IsStaticGood l.image k;
+      runnable : (k : ℕ) → k < l.i → IsStaticRunnable l.image k;
     }
