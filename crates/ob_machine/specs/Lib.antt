@@ -1,2 +1,7 @@
 pub mod Output
 pub mod First
+pub mod Buffers
+pub mod Devices
+pub mod Machines
+pub mod Progress
+pub mod Laws

@@ -3,8 +3,11 @@
 #![tactic(auto)]
 
 pub use first::{FirstEnd, FirstInstr, lower_first, run_code};
+pub use laws::{law_places, law_spent};
 
+mod buffers;
 mod first;
+mod laws;
 mod output;
 #[cfg(test)]
 mod tests;
