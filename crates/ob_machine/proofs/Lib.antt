@@ -1,3 +1,5 @@
 pub mod Lowered
 pub mod Interpreted
 pub mod IntRange
+pub mod Filled
+pub mod Tells

@@ -1,8 +1,8 @@
 -- How far a run has come: the states that it goes through, and where their next instructions stand.
-use Rattle.std.specs.Prelude.{◌≡◌, ℕ, zero, suc, List, [], ◌∷◌}
+use Rattle.std.specs.Prelude.{◌≡◌, ℕ, zero, suc, ◌-◌, ◌<◌, List, [], ◌∷◌, length, slice_get}
 use Rattle.ob_code.specs.declared.image.Image.{Image}
-use Rattle.ob_code.specs.Machine.{step}
-use Rattle.ob_code.specs.Rules.{IsCodeOf, IsVerified}
+use Rattle.ob_code.specs.Machine.{result_word, step}
+use Rattle.ob_code.specs.Rules.{IsCodeOf, IsWritten, words_of}
 use Rattle.ob_code.specs.Start.{fresh, started}
 use Rattle.ob_code.specs.State.{Call, Setup, Space, State, goes}
 
@@ -21,3 +21,23 @@ pub record Reaches (u : Setup) (space : Space) (place : ℕ) (input : List ℕ) 
 abbrev pub IsInnermost : Image → List Call → ℕ → Type 0
 IsInnermost image [] at = ⊥
 IsInnermost image (c ∷ cs) at = IsCodeOf image c.function at
+
+-- where a call returns to: to the end of the code from the first function; else to just after an instruction that names a word
+-- of the caller's for the result
+pub record IsReturnPlace (image : Image) (caller link : ℕ) : Type 0 where
+  pub positive : 0 < link
+  pub in_code : IsCodeOf image caller link
+  pub result : IsWritten (words_of image caller) (result_word (slice_get image.code (link - 1)))
+
+abbrev pub IsLink : Image → List Call → ℕ → Type 0
+IsLink image [] link = link ≡ length image.code
+IsLink image (c ∷ cs) link = IsReturnPlace image c.function link
+
+abbrev pub AreLinked : Image → List Call → Type 0
+AreLinked image [] = Unit {0}
+AreLinked image (c ∷ cs) = IsLink image cs c.link × AreLinked image cs
+
+-- a state from which a run can go on
+pub record IsPlaced (image : Image) (calls : List Call) (at : ℕ) : Type 0 where
+  pub innermost : IsInnermost image calls at
+  pub linked : AreLinked image calls
