@@ -46,8 +46,8 @@ at_zero n (suc w) x y p q = q
 entering : (n : ℕ) (image : Image) (f link : ℕ) (arguments : List ℕ) (s : State) → s.count ≡ n → Counts n (machine.entering image f link arguments s)
 unfolding Counts either
 entering n image f link arguments s e =
-    either n (is_full image f s.space.calls) (stops Stack s)
-    (goes (record s { at = (function_at image f).entry; space = with_words (entered image f link s.space) 2 arguments })) e e
+    either n (is_full image.functions f s.space.calls) (stops Stack s)
+    (goes (record s { at = (function_at image.functions f).entry; space = with_words (entered image.functions f link s.space) 2 arguments })) e e
 
 landed : (n : ℕ) (code : List Instr) (link w : ℕ) (cs : List Call) (s : State) → s.count ≡ n → Counts n (machine.landed code link w cs s)
 unfolding Counts
@@ -57,7 +57,7 @@ landed n code link w (c ∷ cs) s e = e
 returned : (image : Image) (cs : List Call) (w : ℕ) (s : State) → Counts s.count (machine.returned image cs w s)
 unfolding Counts landed
 returned image [] w s = refl
-returned image (c ∷ cs) w s = landed s.count image.code c.link w cs (record s { space = left_call image c cs s.space }) refl
+returned image (c ∷ cs) w s = landed s.count image.code c.link w cs (record s { space = left_call image.functions c cs s.space }) refl
 
 set_or_made : (n : ℕ) (r : Option ℕ) (u : Setup) (kind : LoadKind) (a : ℕ) (s : State) → s.count ≡ n → Counts n (machine.set_or_made r u kind a s)
 unfolding Counts
@@ -119,7 +119,7 @@ act_on u (Some (instr.JumpZero b imm)) s = at_zero s.count (machine.get s b) (go
 act_on u (Some (instr.JumpNonzero b imm)) s =
     at_zero s.count (machine.get s b) (goes (machine.on s)) (goes (machine.jump (unsigned_abs imm) s)) refl refl
 act_on u (Some (instr.Call a b imm)) s = ticked s.count s.left s (machine.calling u.image (unsigned_abs imm) b) refl
-    (λ t e. entering s.count u.image (unsigned_abs imm) (t.at + 1) (words_from t.space b (function_at u.image (unsigned_abs imm)).params) t e)
+    (λ t e. entering s.count u.image (unsigned_abs imm) (t.at + 1) (words_from t.space b (function_at u.image.functions (unsigned_abs imm)).params) t e)
 act_on u (Some (instr.Return b)) s = returned u.image s.space.calls (machine.get s b) s
 act_on u (Some (instr.Static a imm)) s = refl
 act_on u (Some (instr.Local a imm)) s = refl

@@ -17,7 +17,7 @@ use Rattle.ob_code.specs.State.{Final}
 
 abbrev pub run_on : Image → RunSettings → List ℕ → InputEnd → Final
 run_on image settings input input_end =
-    run_from (record { image = image; settings = settings; cycle = 0 ∷ 1 ∷ 2 ∷ []; input_end = input_end }) (laid_out 256 image settings) 0 input 10
+    run_from (record { image = image; settings = settings; cycle = 0 ∷ 1 ∷ 2 ∷ []; input_end = input_end }) (laid_out 256 image.statics image.pointers settings) 0 input 10
 
 -- without input, with room for one out-of-bounds pointer and 32 bytes of heap
 abbrev pub small_run : Image → Final

@@ -16,6 +16,7 @@ use Rattle.ob_model.specs.Accesses.{bytes_of_kind, is_far, own_granules}
 use Rattle.ob_model.specs.Endings.{InputEnd, closed, failed}
 use Rattle.ob_model.specs.Manufactured.{manufactured, place_after}
 use Rattle.ob_flat.specs.Memory.{with_zeros}
+use Rattle.ob_code.specs.declared.image.FunctionRow.{FunctionRow}
 use Rattle.ob_code.specs.declared.image.Image.{Image}
 use Rattle.ob_code.specs.declared.image.LocalRow.{LocalRow}
 use Rattle.ob_code.specs.declared.image.StaticRow.{StaticRow}
@@ -81,11 +82,11 @@ at_zero (suc n) here there = there
 -- main has no arguments; another call's are the words from one on
 abbrev pub entering : Image → ℕ → ℕ → List ℕ → State → Next
 entering image f link arguments s =
-    if is_full image f s.space.calls then stops Stack s
-    else goes (record s { at = (function_at image f).entry; space = with_words (entered image f link s.space) 2 arguments })
+    if is_full image.functions f s.space.calls then stops Stack s
+    else goes (record s { at = (function_at image.functions f).entry; space = with_words (entered image.functions f link s.space) 2 arguments })
 
 abbrev pub calling : Image → ℕ → ℕ → State → Next
-calling image f b s = entering image f (s.at + 1) (words_from s.space b (function_at image f).params) s
+calling image f b s = entering image f (s.at + 1) (words_from s.space b (function_at image.functions f).params) s
 
 -- the result goes to the word that the call before the return place names; when `main` returns, the run ends
 abbrev pub result_word : Option Instr → ℕ
@@ -98,7 +99,7 @@ landed code link w (c ∷ cs) s = set_word (jump (link - 1) s) (result_word (sli
 
 abbrev pub returned : Image → List states.Call → ℕ → State → Next
 returned image [] w s = stops (Ended (number Int w)) s
-returned image (c ∷ cs) w s = landed image.code c.link w cs (record s { space = left_call image c cs s.space })
+returned image (c ∷ cs) w s = landed image.code c.link w cs (record s { space = left_call image.functions c cs s.space })
 
 -- ---- objects
 
@@ -114,16 +115,16 @@ static_base rows object = 4096 + blocks_of (take (object - 1) rows)
 abbrev pub no_local : LocalRow
 no_local = record { ordinal = 0; place = 0; size = 0 }
 
-abbrev pub local_at : Image → Space → ℕ → LocalRow
-local_at image s i = slice_index_or (top_function image s.calls).locals i no_local
+abbrev pub local_at : List FunctionRow → Space → ℕ → LocalRow
+local_at functions s i = slice_index_or (top_function functions s.calls).locals i no_local
 
-abbrev pub local_base : Image → Space → ℕ → ℕ
-local_base image s i = top_base s.calls + (local_at image s i).place
+abbrev pub local_base : List FunctionRow → Space → ℕ → ℕ
+local_base functions s i = top_base s.calls + (local_at functions s i).place
 
 -- its own granules become zero bytes
-abbrev pub wiped : Image → ℕ → Space → Space
-wiped image i s =
-    record s { memory = with_zeros s.memory (local_base image s i) (8 * own_granules (local_at image s i).size) }
+abbrev pub wiped : List FunctionRow → ℕ → Space → Space
+wiped functions i s =
+    record s { memory = with_zeros s.memory (local_base functions s i) (8 * own_granules (local_at functions s i).size) }
 
 -- ---- accesses
 
@@ -222,9 +223,9 @@ act_on u (Some (Call a b imm)) s = ticked s.left s (λ t. calling u.image (unsig
 act_on u (Some (Return b)) s = returned u.image s.space.calls (get s b) s
 -- a becomes the base of a static object, and of a local one
 act_on u (Some (Static a imm)) s = set_word s a (static_base u.image.statics (unsigned_abs imm))
-act_on u (Some (Local a imm)) s = set_word s a (local_base u.image s.space (unsigned_abs imm))
+act_on u (Some (Local a imm)) s = set_word s a (local_base u.image.functions s.space (unsigned_abs imm))
 -- the granules of a local object become zero bytes
-act_on u (Some (Wipe imm)) s = goes (on (record s { space = wiped u.image (unsigned_abs imm) s.space }))
+act_on u (Some (Wipe imm)) s = goes (on (record s { space = wiped u.image.functions (unsigned_abs imm) s.space }))
 -- a becomes what a checked load gives through b, displaced by the `long` c; a checked store writes a there
 act_on u (Some (Load kind line a b c)) s =
     load (course u.settings.mode s.space (get s b) (get_number Long s c) (bytes_of_kind kind)) u kind line a s

@@ -84,21 +84,21 @@ pub record IsFrameSound (f : FunctionRow) : Type 0 where
 
 -- the first entry is 0, entries increase, and each is a place of the code
 pub record IsEntrySound (image : Image) (i : ℕ) : Type 0 where
-  pub first : i ≡ 0 → (function_at image i).entry ≡ 0
-  pub order : 0 < i → (function_at image (i - 1)).entry < (function_at image i).entry
-  pub in_code : (function_at image i).entry < length image.code
+  pub first : i ≡ 0 → (function_at image.functions i).entry ≡ 0
+  pub order : 0 < i → (function_at image.functions (i - 1)).entry < (function_at image.functions i).entry
+  pub in_code : (function_at image.functions i).entry < length image.code
 
 pub record IsFunctionSound (image : Image) (i : ℕ) : Type 0 where
   pub entry : IsEntrySound image i
-  pub frame : IsFrameSound (function_at image i)
+  pub frame : IsFrameSound (function_at image.functions i)
   -- local objects are not run yet
-  pub built : (function_at image i).locals ≡ []
+  pub built : (function_at image.functions i).locals ≡ []
 
 -- ---- main
 
 pub record IsMainSound (image : Image) : Type 0 where
   pub exists : image.main < length image.functions
-  pub no_params : (function_at image image.main).params ≡ 0
+  pub no_params : (function_at image.functions image.main).params ≡ 0
 
 -- ---- code
 
@@ -112,7 +112,7 @@ code_end image f = entry_or (slice_get image.functions (f + 1)) (length image.co
 
 pub record IsCodeOf (image : Image) (f i : ℕ) : Type 0 where
   pub is_function : f < length image.functions
-  pub after_entry : (function_at image f).entry ≤ i
+  pub after_entry : (function_at image.functions f).entry ≤ i
   pub before_end : i < code_end image f
 
 -- words that are written and read, places that are jumped to, numbers in a range
@@ -128,7 +128,7 @@ IsBelow count (pos n) = n < count
 IsBelow count (negsuc n) = ⊥
 
 abbrev pub IsPlaceOf : Image → ℕ → ℤ → Type 0
-IsPlaceOf image f (pos n) = ((function_at image f).entry ≤ n) × (n < code_end image f)
+IsPlaceOf image f (pos n) = ((function_at image.functions f).entry ≤ n) × (n < code_end image f)
 IsPlaceOf image f (negsuc n) = ⊥
 
 -- pointers are ordered by < > <= >=
@@ -142,7 +142,7 @@ IsOrdering Ne = ⊥
 
 -- the operands of an instruction of function f
 abbrev pub words_of : Image → ℕ → ℕ
-words_of image f = (function_at image f).words
+words_of image f = (function_at image.functions f).words
 
 abbrev pub AreOperandsSound : Image → ℕ → Instr → Type 0
 AreOperandsSound image f Tick = Unit {0}
@@ -158,12 +158,12 @@ AreOperandsSound image f (JumpZero b imm) = (b < words_of image f) × IsPlaceOf 
 AreOperandsSound image f (JumpNonzero b imm) = (b < words_of image f) × IsPlaceOf image f imm
 AreOperandsSound image f (Call a b imm) =
     IsWritten (words_of image f) a × (b < words_of image f) × IsBelow (length image.functions) imm
-    × (b + (function_at image (unsigned_abs imm)).params ≤ words_of image f)
+    × (b + (function_at image.functions (unsigned_abs imm)).params ≤ words_of image f)
 AreOperandsSound image f (Return b) = b < words_of image f
 AreOperandsSound image f (Static a imm) = IsWritten (words_of image f) a × IsBetween 1 (length image.statics) imm
 AreOperandsSound image f (Local a imm) =
-    IsWritten (words_of image f) a × IsBelow (length (function_at image f).locals) imm
-AreOperandsSound image f (Wipe imm) = IsBelow (length (function_at image f).locals) imm
+    IsWritten (words_of image f) a × IsBelow (length (function_at image.functions f).locals) imm
+AreOperandsSound image f (Wipe imm) = IsBelow (length (function_at image.functions f).locals) imm
 AreOperandsSound image f (Load kind line a b c) =
     IsWritten (words_of image f) a × (b < words_of image f) × (c < words_of image f)
 AreOperandsSound image f (Store kind line a b c) =

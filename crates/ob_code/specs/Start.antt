@@ -43,13 +43,13 @@ abbrev pub empty_space : Memory → ℕ → Space
 empty_space m next =
     record { memory = m; entries = []; slots = []; blocks = []; outside = []; calls = []; next = next }
 
-abbrev pub with_static_pointers : Image → Space → Space
-with_static_pointers image s = record s { memory = with_pointers image.statics image.pointers s.memory }
+abbrev pub with_static_pointers : List StaticRow → List PointerRow → Space → Space
+with_static_pointers statics pointers s = record s { memory = with_pointers statics pointers s.memory }
 
-abbrev pub laid_out : ℕ → Image → RunSettings → Space
-laid_out stack image settings =
-    with_static_pointers image
-    (with_statics 4096 1 image.statics (empty_space (zeroed (blocks_of image.statics) stack settings.heap) (length image.statics + 1)))
+abbrev pub laid_out : ℕ → List StaticRow → List PointerRow → RunSettings → Space
+laid_out stack statics pointers settings =
+    with_static_pointers statics pointers
+    (with_statics 4096 1 statics (empty_space (zeroed (blocks_of statics) stack settings.heap) (length statics + 1)))
 
 -- the state before anything is done
 abbrev pub fresh : Space → ℕ → List ℕ → ℕ → State
@@ -76,7 +76,7 @@ stack_bytes = 1048576
 abbrev pub flat_final : Image → RunSettings → List ℕ → ℕ → List ℕ → InputEnd → ℕ → Final
 flat_final image settings cycle place input input_end steps =
     run_from (record { image = image; settings = settings; cycle = cycle; input_end = input_end })
-    (laid_out stack_bytes image settings) place input steps
+    (laid_out stack_bytes image.statics image.pointers settings) place input steps
 
 -- what the run gives, the state at which it ended, and how many instructions it did
 abbrev pub outcome_of : Final → Outcome

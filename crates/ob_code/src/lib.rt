@@ -11,6 +11,7 @@ pub use laws::{
     law_control_runs, law_number_runs, law_object_runs, law_pointer_runs, law_runs_are_bounded,
 };
 pub use rows::Rows;
+pub use rules::functions::frame_length;
 pub use verified::{Verified, verify};
 
 mod faults;

@@ -65,7 +65,7 @@ fn is_ordering(relation: Relation) -> bool
 
 // A call's function exists and has no more parameters than words from b on.
 fn is_call(image: &Image, words: u32, b: u32, imm: i64) -> bool
-    ensures { IsTrue result ↔ (IsBelow (length image.now.functions) imm × (b + (function_at image.now (unsigned_abs imm)).params ≤ words)) }
+    ensures { IsTrue result ↔ (IsBelow (length image.now.functions) imm × (b + (function_at image.now.functions (unsigned_abs imm)).params ≤ words)) }
 {
     let functions = image.functions.as_slice();
     match usize::try_from(imm) {
@@ -171,7 +171,7 @@ fn holder(image: &Image, f: usize, i: usize) -> usize
     requires sound { AreFunctionsSound image.now }
     requires place { i < length image.now.code }
     requires function { f < length image.now.functions }
-    requires after_entry { (function_at image.now f).entry ≤ i }
+    requires after_entry { (function_at image.now.functions f).entry ≤ i }
     requires before_end { i ≤ code_end image.now f }
     ensures { IsCodeOf image.now result i }
 {

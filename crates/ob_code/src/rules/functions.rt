@@ -54,8 +54,9 @@ fn locals_are_sound(f: &FunctionRow) -> bool
     true
 }
 
-// How many bytes a frame has.
-fn frame_length(f: &FunctionRow) -> u128
+/// How many bytes a frame of this function has: its words, in whole blocks of 16 bytes, and the blocks of
+/// its local objects.
+pub fn frame_length(f: &FunctionRow) -> u128
     ensures { result ≡ frame_length f.now }
 {
     let end = match f.locals.as_slice().last() {

@@ -1,0 +1,2 @@
+pub mod StackWrites
+pub mod CallLists

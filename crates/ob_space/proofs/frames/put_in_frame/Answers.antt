@@ -1,0 +1,5 @@
+use Rattle.ob_space.proofs.StackWrites.{stack_put}
+use Rattle.ob_space.proofs.frames.put_in_frame.Goals as goal
+
+pub returns-clause-stack : goal.returns-clause-stack
+returns-clause-stack c = rw c.put.ensures (stack_put c.args.flat.now c.args.address c.args.w c.law_layout.ensures c.requires.stack c.requires.inside)

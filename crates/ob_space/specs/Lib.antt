@@ -1,0 +1,5 @@
+pub mod Calls
+pub mod Links
+pub mod Loaded
+pub mod Kept
+pub mod Writes
