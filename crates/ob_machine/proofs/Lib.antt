@@ -3,3 +3,6 @@ pub mod Interpreted
 pub mod IntRange
 pub mod Filled
 pub mod Tells
+pub mod Placed
+pub mod Runs
+pub mod Reached

@@ -44,14 +44,14 @@ Tells end s (goes t) = IsAfter s t
 Tells end s (stops e t) = CanEnd end e × IsAfter s t
 
 -- nothing was written
-quiet : (s t : State) → t.output ≡ s.output → t.count ≡ s.count → IsAfter s t
+pub quiet : (s t : State) → t.output ≡ s.output → t.count ≡ s.count → IsAfter s t
 quiet s t e n = record { output = ([], e ∙ sym (append-nil s.output)); count = n }
 
-either : (end : InputEnd) (s : State) (b : Bool) (x y : Next) → Tells end s x → Tells end s y → Tells end s (cond b x y)
+pub either : (end : InputEnd) (s : State) (b : Bool) (x y : Next) → Tells end s x → Tells end s y → Tells end s (cond b x y)
 either end s true x y p q = p
 either end s false x y p q = q
 
-ticked : (end : InputEnd) (left : ℕ) (s : State) (k : State → Next) → ((n : ℕ) → Tells end s (k (record s { left = n }))) → Tells end s (machine.ticked left s k)
+pub ticked : (end : InputEnd) (left : ℕ) (s : State) (k : State → Next) → ((n : ℕ) → Tells end s (k (record s { left = n }))) → Tells end s (machine.ticked left s k)
 ticked end zero s k f = (tt, quiet s s refl refl)
 ticked end (suc left) s k f = f left
 
@@ -64,7 +64,7 @@ at_zero end s zero x y p q = p
 at_zero end s (suc w) x y p q = q
 
 
-entering : (end : InputEnd) (s : State) (image : Image) (f link : ℕ) (arguments : List ℕ) (t : State) → IsAfter s t → Tells end s (machine.entering image f link arguments t)
+pub entering : (end : InputEnd) (s : State) (image : Image) (f link : ℕ) (arguments : List ℕ) (t : State) → IsAfter s t → Tells end s (machine.entering image f link arguments t)
 entering end s image f link arguments t h =
     either end s (is_full image.functions f t.space.calls) (stops ending.Stack t)
     (goes (record t { at = (function_at image.functions f).entry; space = with_words (entered image.functions f link t.space) 2 arguments })) (tt, h)
