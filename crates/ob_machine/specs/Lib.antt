@@ -5,3 +5,4 @@ pub mod Devices
 pub mod Machines
 pub mod Progress
 pub mod Laws
+pub mod Executions

@@ -5,7 +5,9 @@
 pub use first::{FirstEnd, FirstInstr, lower_first, run_code};
 pub use laws::{law_places, law_spent};
 
+mod arithmetic;
 mod buffers;
+mod execution;
 mod first;
 mod laws;
 mod output;
