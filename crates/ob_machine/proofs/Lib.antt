@@ -6,3 +6,6 @@ pub mod Tells
 pub mod Placed
 pub mod Runs
 pub mod Reached
+pub mod Words
+pub mod Handed
+pub mod Returns

@@ -17,7 +17,7 @@ use Rattle.ob_model.specs.Endings.{InputEnd, closed, failed}
 use Rattle.ob_code.specs.declared.image.Image.{Image}
 use Rattle.ob_code.specs.declared.instructions.Instr.{Instr}
 use Rattle.ob_code.specs.declared.instructions.Instr.TheVariants as instr
-use Rattle.ob_code.proofs.CodeRanges.{entry_before_end}
+use Rattle.ob_code.proofs.CodeRanges.{code_end_cases, entry_before_end}
 use Rattle.ob_code.specs.Allocation.{Freeing, no_effect, dies, stray, freeing, place_for, allocated_at}
 use Rattle.ob_code.specs.Courses.{Course, too_far, direct, own, outside, vanishing, course, read_outside, after_outside_load, stray_event}
 use Rattle.ob_code.specs.Frames.{entered, function_at, is_full, left_call, with_word, with_words, words_from}
@@ -146,6 +146,14 @@ below : (count : ℕ) (imm : ℤ) → IsBelow count imm → unsigned_abs imm < c
 below count (pos n) h = h
 below count (negsuc n) h = absurd h
 
+-- a function's places are places of the code
+pub in_code : (image : Image) (f at : ℕ) → IsVerified image → IsCodeOf image f at → at < length image.code
+in_code image f at v here =
+    elim (code_end_cases image f) [
+      | inl w ↦ omega (arith, w.1, here.before_end, (v.functions.rows.each (f + 1) w.0).entry.in_code)
+      | inr w ↦ omega (arith, w.1, here.before_end)
+    ]
+
 -- a call's function, and its return place
 call_link : (image : Image) (calls : List Call) (at a b : ℕ) (imm : ℤ) → IsVerified image → IsInnermost image calls at → slice_get image.code at ≡ Some (instr.Call a b imm) → (unsigned_abs imm < length image.functions) × IsLink image calls (at + 1)
 call_link image [] at a b imm v here is = absurd here
@@ -153,9 +161,10 @@ call_link image (c ∷ cs) at a b imm v here is =
     let operands = (sound_there image c.function at (instr.Call a b imm) v here is).0 in
     let back : at + 1 - 1 ≡ at = omega arith in
     let named : machine.result_word (slice_get image.code (at + 1 - 1)) ≡ a = ap (λ k. machine.result_word (slice_get image.code k)) back ∙ ap machine.result_word is in
+    let next = next_place image c.function at (instr.Call a b imm) v here is (λ x. x) in
     (
       below (length image.functions) imm operands.2,
-      record { positive = omega arith; in_code = next_place image c.function at (instr.Call a b imm) v here is (λ x. x); result = subst (IsWritten (words_of image c.function)) (sym named) operands.0 },
+      record { positive = omega arith; within = in_code image c.function (at + 1) v next; in_code = next; result = subst (IsWritten (words_of image c.function)) (sym named) operands.0 },
     )
 
 target_place : (image : Image) (calls : List Call) (at : ℕ) (imm : ℤ) → IsInnermost image calls at → ((f : ℕ) → IsCodeOf image f at → IsPlaceOf image f imm) → IsInnermost image calls (unsigned_abs imm)

@@ -4,7 +4,6 @@ use Rattle.std.proofs.lemmas.Option.{slice_get-get_or}
 use Rattle.ob_model.specs.Entries.{with_entry}
 use Rattle.ob_model.specs.declared.settings.RunSettings.{RunSettings}
 use Rattle.ob_words.specs.Words.{block}
-use Rattle.ob_code.proofs.CodeRanges.{code_end_cases}
 use Rattle.ob_code.specs.declared.image.Image.{Image}
 use Rattle.ob_code.specs.declared.image.StaticRow.{StaticRow}
 use Rattle.ob_code.specs.declared.instructions.Instr.TheVariants.{Tick}
@@ -15,15 +14,7 @@ use Rattle.ob_code.specs.Start.{fresh, laid_out, stack_bytes, started, with_byte
 use Rattle.ob_code.specs.State.{Call, Next, Setup, Space, State, goes, stops}
 use Rattle.ob_machine.specs.Progress.{AreLinked, IsInnermost, IsLink, IsPlaced, Leads, Reaches}
 use Rattle.ob_machine.proofs.Placed as placed
-use Rattle.ob_machine.proofs.Placed.{Goes, Stays, act_on, numbers}
-
--- a function's places are places of the code
-pub in_code : (image : Image) (f at : ℕ) → IsVerified image → IsCodeOf image f at → at < length image.code
-in_code image f at v here =
-    elim (code_end_cases image f) [
-      | inl w ↦ omega (arith, w.1, here.before_end, (v.functions.rows.each (f + 1) w.0).entry.in_code)
-      | inr w ↦ omega (arith, w.1, here.before_end)
-    ]
+use Rattle.ob_machine.proofs.Placed.{Goes, Stays, act_on, in_code, numbers}
 
 innermost_in_code : (image : Image) (calls : List Call) (at : ℕ) → IsVerified image → IsInnermost image calls at → at < length image.code
 innermost_in_code image [] at v here = absurd here

@@ -1,5 +1,11 @@
 -- A run in progress as the program keeps it, and the state of the definition's that it stands for.
-use Rattle.std.specs.Prelude.{◌≡◌, ℕ, List, [], ◌∷◌, Option, Some, None}
+use Rattle.std.specs.Prelude.{◌≡◌, ℕ, ℤ, List, [], ◌∷◌, Option, Some, None, Result, Ok, Err, if◌then◌else◌, pos}
+use Rattle.ob_words.specs.declared.types.BinOp.{BinOp}
+use Rattle.ob_words.specs.declared.types.BinOp.TheVariants.{Shl, Shr}
+use Rattle.ob_words.specs.declared.types.DivideByZero.{DivideByZero}
+use Rattle.ob_words.specs.declared.types.IntType.{IntType}
+use Rattle.ob_words.specs.Words.{number, word}
+use Rattle.ob_model.specs.Accesses.{is_far}
 use Rattle.ob_model.specs.declared.endings.Ending.{Ending}
 use Rattle.ob_model.specs.declared.settings.RunSettings.{RunSettings}
 use Rattle.ob_model.specs.declared.strays.StrayEvent.{StrayEvent}
@@ -42,3 +48,19 @@ setup image settings cycle input_end =
 abbrev pub top_number : List Call → ℕ
 top_number [] = 0
 top_number (c ∷ cs) = c.function
+
+-- ---- results as words
+
+-- the right operand of an operator: a shift takes the whole word
+abbrev pub right_of : BinOp → IntType → ℕ → ℤ
+right_of Shl t w = pos w
+right_of Shr t w = pos w
+right_of _ t w = number t w
+
+-- the word of a result, and of a displacement that isn't too far
+abbrev pub result_word : Result ℤ DivideByZero → Option ℕ
+result_word (Ok n) = Some (word n)
+result_word (Err e) = None
+
+abbrev pub near_word : ℤ → Option ℕ
+near_word d = if is_far d then None else Some (word d)

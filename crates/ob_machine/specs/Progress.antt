@@ -26,6 +26,7 @@ IsInnermost image (c ∷ cs) at = IsCodeOf image c.function at
 -- of the caller's for the result
 pub record IsReturnPlace (image : Image) (caller link : ℕ) : Type 0 where
   pub positive : 0 < link
+  pub within : link < length image.code
   pub in_code : IsCodeOf image caller link
   pub result : IsWritten (words_of image caller) (result_word (slice_get image.code (link - 1)))
 

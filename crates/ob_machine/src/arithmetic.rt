@@ -1,139 +1,81 @@
-ghost use Rattle.std.specs.Prelude.{◌≡◌, ◌+◌, ◌<◌, ◌≤◌, ◌^◌, ◌+ℤ◌, ◌*ℤ◌, unsigned_abs, IsFalse};
+ghost use Rattle.std.specs.Prelude.{◌≡◌, ◌≤◌, ◌+ℤ◌, ◌*ℤ◌, unsigned_abs, IsFalse};
 ghost use Rattle.ob_words.specs.Operators.{binary, compare, shifts};
 ghost use Rattle.ob_words.specs.Types.{IsNumber};
-ghost use Rattle.ob_words.specs.Words.{word};
-ghost use Rattle.ob_words.specs.declared.types.IntType.TheVariants.{Long};
-ghost use Rattle.ob_code.specs.Machine.{flag, get_number, right_number, set_result, set_word, slide};
-ghost use Rattle.ob_code.specs.State.{goes};
-ghost use Rattle.ob_code.specs.Rules.{IsWritten};
-ghost use Rattle.ob_space.specs.Loaded.{top_words};
-ghost use Rattle.ob_machine.specs.Executions.{Beside, Is, SameRows, state_of};
+ghost use Rattle.ob_words.specs.Words.{number, word};
+ghost use Rattle.ob_words.specs.declared.types.IntType.TheVariants.{Int, Long};
+ghost use Rattle.ob_machine.specs.Executions.{near_word, result_word, right_of};
 
-use crate::execution::{Execution, number_of};
-use ob_model::Ending;
-use ob_words::{BinOp, IntType, Relation, binary, compare, word};
+use ob_words::{BinOp, IntType, Relation, binary, compare, convert, word};
 
 /// The greatest distance of an offset from 0.
 const MOST_OFFSET: u128 = 1 << 62;
 
-impl Execution {
-    /// A word of the innermost call's frame, as a number of a type.
-    fn number(&self, t: IntType, i: u32) -> i128
-        requires { i < top_words self.now.space }
-        ensures value { (r : Beside) → result ≡ get_number t (state_of self.now r) i }
-        ensures range { IsNumber t result }
-    {
-        number_of(t, self.word(i))
-    }
+/// The number of type `t` that a word stands for.
+fn number(t: IntType, w: u64) -> i128
+    ensures value { result ≡ number t w }
+    ensures range { IsNumber t result }
+{
+    convert(t, w as i128)
+}
 
-    /// The right operand of an operator: a shift takes the whole word.
-    fn right_number(&self, operator: BinOp, t: IntType, i: u32) -> i128
-        requires { i < top_words self.now.space }
-        ensures value { (r : Beside) → result ≡ right_number operator t (state_of self.now r) i }
-        ensures range { IsFalse (shifts operator) → IsNumber t result }
-    {
-        match operator {
-            BinOp::Shl | BinOp::Shr => self.word(i) as i128,
-            BinOp::Add
-            | BinOp::Sub
-            | BinOp::Mul
-            | BinOp::Div
-            | BinOp::Rem
-            | BinOp::And
-            | BinOp::Or
-            | BinOp::Xor => self.number(t, i),
-        }
-    }
+/// The `int` that a word stands for.
+pub(crate) fn int_of(w: u64) -> i64
+    ensures { result ≡ number Int w }
+{
+    number(IntType::Int, w) as i64
+}
 
-    /// Converts a word to a type.
-    pub(crate) fn convert(&mut self, t: IntType, a: u32, b: u32)
-        requires written { IsWritten (top_words self.old.space) a }
-        requires read { b < top_words self.old.space }
-        requires at { self.old.at < 2 ^ 32 }
-        ensures state { (r : Beside) → set_word (state_of self.old r) a (word (get_number t (state_of self.old r) b)) ≡ goes (state_of self.new r) }
-        ensures rows { SameRows self.old.space self.new.space }
-    {
-        let n = self.number(t, b);
-        self.set_word(a, word(n));
-    }
+/// The word of a word's number in type `t`.
+pub(crate) fn converted(t: IntType, w: u64) -> u64
+    ensures { result ≡ word (number t w) }
+{
+    word(number(t, w))
+}
 
-    /// Computes with two words in a type.
-    pub(crate) fn binary(&mut self, operator: BinOp, t: IntType, a: u32, b: u32, c: u32) -> Option<Ending>
-        requires written { IsWritten (top_words self.old.space) a }
-        requires left { b < top_words self.old.space }
-        requires right { c < top_words self.old.space }
-        requires at { self.old.at < 2 ^ 32 }
-        ensures state { (r : Beside) → Is result (set_result (binary operator t (get_number t (state_of self.old r) b) (right_number operator t (state_of self.old r) c)) a (state_of self.old r)) self.new r }
-        ensures rows { SameRows self.old.space self.new.space }
-    {
-        let left = self.number(t, b);
-        let right = self.right_number(operator, t, c);
-        let Ok(n) = binary(operator, t, left, right) else {
-            return Some(Ending::Divide);
-        };
-        self.set_word(a, word(n));
-        None
-    }
+fn shifts(operator: BinOp) -> bool
+    ensures { result ≡ shifts operator }
+{
+    matches!(operator, BinOp::Shl | BinOp::Shr)
+}
 
-    /// Compares two words in a type.
-    pub(crate) fn compare(&mut self, relation: Relation, t: IntType, a: u32, b: u32, c: u32)
-        requires written { IsWritten (top_words self.old.space) a }
-        requires left { b < top_words self.old.space }
-        requires right { c < top_words self.old.space }
-        requires at { self.old.at < 2 ^ 32 }
-        ensures state { (r : Beside) → set_word (state_of self.old r) a (flag (compare relation (get_number t (state_of self.old r) b) (get_number t (state_of self.old r) c))) ≡ goes (state_of self.new r) }
-        ensures rows { SameRows self.old.space self.new.space }
-    {
-        let left = self.number(t, b);
-        let right = self.number(t, c);
-        let holds = compare(relation, left, right);
-        self.set_word(a, u64::from(holds));
-    }
-
-    /// Sets a word to a displacement.
-    fn slide(&mut self, a: u32, d: i128) -> Option<Ending>
-        requires written { IsWritten (top_words self.old.space) a }
-        requires at { self.old.at < 2 ^ 32 }
-        ensures state { (r : Beside) → Is result (slide d a (state_of self.old r)) self.new r }
-        ensures rows { SameRows self.old.space self.new.space }
-    {
-        if d.unsigned_abs() > MOST_OFFSET {
-            return Some(Ending::Far);
-        }
-        self.set_word(a, word(d));
-        None
-    }
-
-    /// A displacement plus some times a size.
-    pub(crate) fn slide_by_size(&mut self, a: u32, b: u32, c: u32, imm: i64) -> Option<Ending>
-        requires written { IsWritten (top_words self.old.space) a }
-        requires left { b < top_words self.old.space }
-        requires right { c < top_words self.old.space }
-        requires size { unsigned_abs imm ≤ 4194304 }
-        requires at { self.old.at < 2 ^ 32 }
-        ensures state { (r : Beside) → Is result (slide (get_number Long (state_of self.old r) b +ℤ imm *ℤ get_number Long (state_of self.old r) c) a (state_of self.old r)) self.new r }
-        ensures rows { SameRows self.old.space self.new.space }
-    {
-        let start = self.number(IntType::Long, b);
-        let count = self.number(IntType::Long, c);
-        self.slide(a, scaled(start, imm, count))
-    }
-
-    /// A displacement plus an offset.
-    pub(crate) fn slide_by_offset(&mut self, a: u32, b: u32, imm: i64) -> Option<Ending>
-        requires written { IsWritten (top_words self.old.space) a }
-        requires left { b < top_words self.old.space }
-        requires size { unsigned_abs imm ≤ 4194304 }
-        requires at { self.old.at < 2 ^ 32 }
-        ensures state { (r : Beside) → Is result (slide (get_number Long (state_of self.old r) b +ℤ imm) a (state_of self.old r)) self.new r }
-        ensures rows { SameRows self.old.space self.new.space }
-    {
-        let start = self.number(IntType::Long, b);
-        self.slide(a, start + imm as i128)
+fn right(operator: BinOp, t: IntType, w: u64) -> i128
+    ensures value { result ≡ right_of operator t w }
+    ensures range { IsFalse (shifts operator) → IsNumber t result }
+{
+    if shifts(operator) {
+        w as i128
+    } else {
+        number(t, w)
     }
 }
 
-/// `start + size * count`, which no `i128` is too small for.
+/// The word of what an operator gives in type `t`; none where it divides by zero.
+pub(crate) fn computed(operator: BinOp, t: IntType, x: u64, y: u64) -> Option<u64>
+    ensures { result ≡ result_word (binary operator t (number t x) (right_of operator t y)) }
+{
+    match binary(operator, t, number(t, x), right(operator, t, y)) {
+        Ok(n) => Some(word(n)),
+        Err(_) => None,
+    }
+}
+
+/// Whether two words stand in a relation as numbers of type `t`.
+pub(crate) fn compared(relation: Relation, t: IntType, x: u64, y: u64) -> bool
+    ensures { result ≡ compare relation (number t x) (number t y) }
+{
+    compare(relation, number(t, x), number(t, y))
+}
+
+fn near(d: i128) -> Option<u64>
+    ensures { result ≡ near_word d }
+{
+    if d.unsigned_abs() > MOST_OFFSET {
+        None
+    } else {
+        Some(word(d))
+    }
+}
+
 fn scaled(start: i128, size: i64, count: i128) -> i128
     requires start { IsNumber Long start }
     requires size { unsigned_abs size ≤ 4194304 }
@@ -141,4 +83,32 @@ fn scaled(start: i128, size: i64, count: i128) -> i128
     ensures { result ≡ start +ℤ size *ℤ count }
 {
     start + size as i128 * count
+}
+
+/// The word of a displacement plus some times a size; none where it is too far.
+pub(crate) fn slid_by_size(start: u64, size: i64, count: u64) -> Option<u64>
+    requires { unsigned_abs size ≤ 4194304 }
+    ensures { result ≡ near_word (number Long start +ℤ size *ℤ number Long count) }
+{
+    near(scaled(
+        number(IntType::Long, start),
+        size,
+        number(IntType::Long, count),
+    ))
+}
+
+fn moved(start: i128, offset: i64) -> i128
+    requires start { IsNumber Long start }
+    requires offset { unsigned_abs offset ≤ 4194304 }
+    ensures { result ≡ start +ℤ offset }
+{
+    start + offset as i128
+}
+
+/// The word of a displacement plus an offset; none where it is too far.
+pub(crate) fn slid_by_offset(start: u64, offset: i64) -> Option<u64>
+    requires { unsigned_abs offset ≤ 4194304 }
+    ensures { result ≡ near_word (number Long start +ℤ offset) }
+{
+    near(moved(number(IntType::Long, start), offset))
 }

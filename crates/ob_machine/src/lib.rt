@@ -7,6 +7,7 @@ pub use laws::{law_places, law_spent};
 
 mod arithmetic;
 mod buffers;
+mod calls;
 mod execution;
 mod first;
 mod laws;
