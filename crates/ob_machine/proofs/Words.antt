@@ -95,13 +95,18 @@ long_bound z h = let from_least = h.from_least in let below_past = h.below_past 
 sum_bound : (a b : ℤ) → unsigned_abs a ≤ 2 ^ 63 → unsigned_abs b ≤ 4194304 * 2 ^ 63 → unsigned_abs (a +ℤ b) < 2 ^ 127
 sum_bound a b p q = omega (arith, ints, abs_is a, abs_is b, abs_is (a +ℤ b))
 
+-- a narrow number is kept by a wide variable
+pub wide_is : (z : ℤ) → FitsSigned w64 z → unsigned_abs z ≤ 2 ^ 63 → to_z w128 (of_z w128 (to_z w64 (of_z w64 z))) ≡ z
+wide_is z fits small =
+    let narrow : to_z w64 (of_z w64 z) ≡ z = to_z-of_z w64 z fits in
+    ap (λ n. to_z w128 (of_z w128 n)) narrow ∙ to_z-of_z w128 z (fits_signed_from_abs w128 z (omega (arith, small)))
+
 pub scaled_is : (start size count : ℤ) → FitsSigned w128 start → FitsSigned w64 size → FitsSigned w128 count → IsNumber Long start → unsigned_abs size ≤ 4194304 → IsNumber Long count → to_z w128 (of_z w128 (to_z w128 (of_z w128 start) +ℤ to_z w128 (of_z w128 (to_z w128 (of_z w128 (to_z w64 (of_z w64 size))) *ℤ to_z w128 (of_z w128 count))))) ≡ start +ℤ size *ℤ count
 scaled_is start size count fits_start fits_size fits_count s small n =
     let product : unsigned_abs (size *ℤ count) ≤ 4194304 * 2 ^ 63 = product_bound size count small (long_bound count n) in
     let start_is : to_z w128 (of_z w128 start) ≡ start = to_z-of_z w128 start fits_start in
     let count_is : to_z w128 (of_z w128 count) ≡ count = to_z-of_z w128 count fits_count in
-    let narrow : to_z w64 (of_z w64 size) ≡ size = to_z-of_z w64 size fits_size in
-    let size_is : to_z w128 (of_z w128 (to_z w64 (of_z w64 size))) ≡ size = ap (λ z. to_z w128 (of_z w128 z)) narrow ∙ to_z-of_z w128 size (fits_signed_from_abs w128 size (omega arith)) in
+    let size_is : to_z w128 (of_z w128 (to_z w64 (of_z w64 size))) ≡ size = wide_is size fits_size (omega arith) in
     let product_is : to_z w128 (of_z w128 (size *ℤ count)) ≡ size *ℤ count = to_z-of_z w128 (size *ℤ count) (fits_signed_from_abs w128 (size *ℤ count) (omega (arith, product))) in
     let sum_is : to_z w128 (of_z w128 (start +ℤ size *ℤ count)) ≡ start +ℤ size *ℤ count = to_z-of_z w128 (start +ℤ size *ℤ count) (fits_signed_from_abs w128 (start +ℤ size *ℤ count) (sum_bound start (size *ℤ count) (long_bound start s) product)) in
     (λ i. to_z w128 (of_z w128 (start_is i +ℤ to_z w128 (of_z w128 (size_is i *ℤ count_is i)))))

@@ -1,5 +1,5 @@
 -- A run in progress as the program keeps it, and the state of the definition's that it stands for.
-use Rattle.std.specs.Prelude.{◌≡◌, ℕ, ℤ, List, [], ◌∷◌, Option, Some, None, Result, Ok, Err, if◌then◌else◌, pos}
+use Rattle.std.specs.Prelude.{◌≡◌, ℕ, ◌-◌, ◌^◌, ℤ, List, [], ◌∷◌, Option, Some, None, Result, Ok, Err, if◌then◌else◌, pos}
 use Rattle.ob_words.specs.declared.types.BinOp.{BinOp}
 use Rattle.ob_words.specs.declared.types.BinOp.TheVariants.{Shl, Shr}
 use Rattle.ob_words.specs.declared.types.DivideByZero.{DivideByZero}
@@ -64,3 +64,8 @@ result_word (Err e) = None
 
 abbrev pub near_word : ℤ → Option ℕ
 near_word d = if is_far d then None else Some (word d)
+
+-- what a byte that was read puts into a word: the byte, and -1 at the end
+abbrev pub word_of_byte : Option ℕ → ℕ
+word_of_byte (Some byte) = byte
+word_of_byte None = 2 ^ 64 - 1

@@ -6,3 +6,5 @@ pub mod Machines
 pub mod Progress
 pub mod Laws
 pub mod Executions
+pub mod Effects
+pub mod Exchanges

@@ -5,6 +5,7 @@
 pub use first::{FirstEnd, FirstInstr, lower_first, run_code};
 pub use laws::{law_places, law_spent};
 
+mod act;
 mod arithmetic;
 mod buffers;
 mod calls;
@@ -12,5 +13,6 @@ mod execution;
 mod first;
 mod laws;
 mod output;
+mod ports;
 #[cfg(test)]
 mod tests;
