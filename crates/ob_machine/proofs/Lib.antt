@@ -9,3 +9,4 @@ pub mod Reached
 pub mod Words
 pub mod Handed
 pub mod Returns
+pub mod Exchanged
