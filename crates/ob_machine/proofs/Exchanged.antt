@@ -1,17 +1,21 @@
 -- What goes through the buffers: nothing, a byte, and one exchange after another.
-use Rattle.std.proofs.Common.{◌≡◌, ◌≢◌, ℕ, ◌+◌, ◌-◌, ◌^◌, Bool, true, false, List, [], ◌∷◌, ◌++◌, length, take, Option, Some, None, refl, sym, ap, ◌∙◌, subst, append_assoc}
+use Rattle.std.proofs.Common.{◌≡◌, ◌≢◌, ℕ, ◌+◌, ◌-◌, ◌^◌, Bool, true, false, List, [], ◌∷◌, ◌++◌, length, take, Option, Some, None, Result, Ok, Err, refl, sym, ap, ◌∙◌, subst, append_assoc}
 use Rattle.std.specs.Prelude.{MatchBool, MatchOption}
 use Rattle.std.specs.Io.KnownBytes.{append_known, prepend_known, IsAtEnd}
-use Rattle.std.proofs.lemmas.List.{append-nil}
+use Rattle.std.proofs.lemmas.List.{append-nil, append_cancel_left}
 use Rattle.ob_base.specs.Sink.{Tally}
-use Rattle.ob_model.specs.declared.endings.Ending.TheVariants.{Steps, ReadFault}
+use Rattle.ob_base.proofs.Appending.{append_known-nil, tally_known-nil}
+use Rattle.ob_model.specs.declared.endings.Ending.{Ending}
+use Rattle.ob_model.specs.declared.endings.Ending.TheVariants.{Steps}
 use Rattle.ob_model.specs.Endings.{InputEnd, closed, failed}
 use Rattle.ob_code.specs.Machine.{get_char, set_word, ticked}
 use Rattle.ob_code.specs.State.{Next, State, goes, stops}
 use Rattle.ob_machine.specs.declared.execution.Execution.{Execution}
+use Rattle.ob_machine.specs.declared.ports.Fault.{Fault}
+use Rattle.ob_machine.specs.declared.ports.Fault.TheVariants.{Read, Write}
 use Rattle.ob_machine.specs.Buffers.{IsFilled, IsUsedUp, Unread}
-use Rattle.ob_machine.specs.Executions.{Beside, state_of, word_of_byte}
-use Rattle.ob_machine.specs.Exchanges.{Advances, CanFollow, Devices, FailsToRead, IsRefilled, KnowsEnd, Moves, RefillFailsToRead, having_written, reading}
+use Rattle.ob_machine.specs.Executions.{Beside, Is, state_of, word_of_byte}
+use Rattle.ob_machine.specs.Exchanges.{Advances, Answers, CanFollow, Devices, IsRefilled, KnowsEnd, Moves, Puts, having_written, reading}
 use Rattle.ob_machine.specs.Output.{SentOrPending}
 use Rattle.ob_machine.proofs.Handed.{ticked_once}
 use Rattle.ob_machine.proofs.Interpreted.{sent_none}
@@ -22,7 +26,7 @@ prepend-nil (Some xs) = refl
 
 -- nothing was read and written
 pub still : (d : Devices) → KnowsEnd d.unread d.left → Moves d d [] []
-still d knows = record { was_left = prepend-nil d.left; knows_end = knows; read_quiet = refl; sent = sent_none d.taken d.tally d.pending; write_quiet = refl }
+still d knows = record { was_left = prepend-nil d.left; knows_end = knows; ended = λ h. (refl, h); read_quiet = refl; sent = sent_none d.taken d.tally d.pending; write_quiet = refl }
 
 pub nothing_written : (e : Execution) (input : List ℕ) (b : Beside) → reading e input b ≡ state_of e (having_written input [] b)
 nothing_written e input b = ap (λ output. state_of e (record b { input = input; output = output })) (sym (append-nil b.output))
@@ -97,7 +101,7 @@ got_char does e f d d' v byte a w is some next takes word set =
     record {
       read = next.read;
       written = [];
-      moves = record { was_left = next.moves.was_left; knows_end = λ h. next.moves.knows_end (sym takes.0 ∙ h); read_quiet = next.moves.read_quiet; sent = next.moves.sent; write_quiet = next.moves.write_quiet };
+      moves = record { was_left = next.moves.was_left; knows_end = λ h. next.moves.knows_end (sym takes.0 ∙ h); ended = λ h. let m = next.moves.ended h in (m.0, takes.0 ∙ m.1); read_quiet = next.moves.read_quiet; sent = next.moves.sent; write_quiet = next.moves.write_quiet };
       same = same;
     }
   where
@@ -111,3 +115,58 @@ got_char does e f d d' v byte a w is some next takes word set =
         ∙ ap (set_word (reading (stepped e) (v.bytes ++ more) b) a) (sym word)
         ∙ set (record b { input = v.bytes ++ more })
         ∙ ap goes (nothing_written f (v.bytes ++ more) b)
+
+-- an instruction that is told by another definition of it
+pub answers_as : (does told : InputEnd → State → Next) (e f : Execution) (d d' : Devices) (answer : Result (Option Ending) Fault) → ((input_end : InputEnd) (input : List ℕ) (b : Beside) → told input_end (reading e input b) ≡ does input_end (reading e input b)) → Answers does e f d d' answer → Answers told e f d d' answer
+answers_as does told e f d d' (Ok answer) told_is a =
+    record {
+      read = a.read;
+      written = a.written;
+      moves = a.moves;
+      same = λ input_end more b can. subst (λ x. Is answer x f (having_written (d'.unread.bytes ++ more) a.written b)) (sym (told_is input_end (d.unread.bytes ++ (a.read ++ more)) b)) (a.same input_end more b can);
+    }
+answers_as does told e f d d' (Err Read) told_is a = record { none = a.none; refill = a.refill; same = λ b. told_is failed [] b ∙ a.same b }
+answers_as does told e f d d' (Err Write) told_is a = a
+
+-- an instruction that needs no device
+pub done_advances : (does : InputEnd → State → Next) (e f : Execution) (d : Devices) (answer : Option Ending) → KnowsEnd d.unread d.left → ((input_end : InputEnd) (b : Beside) → Is answer (does input_end (state_of e b)) f b) → Advances does e f d d answer
+done_advances does e f d answer knows is =
+    record {
+      read = [];
+      written = [];
+      moves = still d knows;
+      same = λ input_end more b can.
+          subst (λ output. Is answer (does input_end (reading e (d.unread.bytes ++ more) b)) f (record b { input = d.unread.bytes ++ more; output = output })) (sym (append-nil b.output))
+          (is input_end (record b { input = d.unread.bytes ++ more }));
+    }
+
+-- an instruction that writes
+put_moves : (d : Devices) (byte : ℕ) (pending : List ℕ) → KnowsEnd d.unread d.left → pending ≡ d.pending ++ byte ∷ [] → Moves d (record d { pending = pending }) [] (byte ∷ [])
+put_moves d byte pending knows is =
+    let s = still d knows in
+    record { was_left = s.was_left; knows_end = knows; ended = s.ended; read_quiet = refl; sent = record { sent = []; took = sym (append_known-nil d.taken); tallied = sym (tally_known-nil d.tally); rest = is }; write_quiet = refl }
+
+pub put_advances : (does : InputEnd → State → Next) (e f : Execution) (d : Devices) (pending : List ℕ) (answer : Option Ending) → KnowsEnd d.unread d.left → ((input_end : InputEnd) (b : Beside) → Puts answer d.pending pending (does input_end (state_of e b)) f b) → Advances does e f d (record d { pending = pending }) answer
+put_advances does e f d pending None knows puts =
+    let p = puts closed none in
+    record {
+      read = [];
+      written = p.0 ∷ [];
+      moves = put_moves d p.0 pending knows p.1;
+      same = λ input_end more b can. same input_end more b;
+    }
+  where
+    none : Beside
+    none = record { input = []; output = []; events = []; place = 0 }
+
+    byte_same : (x y : ℕ) → pending ≡ d.pending ++ x ∷ [] → pending ≡ d.pending ++ y ∷ [] → x ≡ y
+    byte_same x y p q = let same : x ∷ [] ≡ y ∷ [] = append_cancel_left d.pending (x ∷ []) (y ∷ []) (sym p ∙ q) in cc
+
+    same : (input_end : InputEnd) (more : List ℕ) (b : Beside) → does input_end (reading e (d.unread.bytes ++ more) b) ≡ goes (state_of f (having_written (d.unread.bytes ++ more) ((puts closed none).0 ∷ []) b))
+    same input_end more b =
+        let p = puts input_end (record b { input = d.unread.bytes ++ more }) in
+        p.2 ∙ ap (λ x. goes (state_of f (having_written (d.unread.bytes ++ more) (x ∷ []) b))) (byte_same p.0 (puts closed none).0 p.1 (puts closed none).1)
+put_advances does e f d pending (Some ending) knows puts =
+    let p = puts closed (record { input = []; output = []; events = []; place = 0 }) in
+    subst (λ xs. Advances does e f d (record d { pending = xs }) (Some ending)) (sym p.0)
+    (done_advances does e f d (Some ending) knows (λ input_end b. (puts input_end b).1))

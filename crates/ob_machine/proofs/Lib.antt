@@ -10,3 +10,4 @@ pub mod Words
 pub mod Handed
 pub mod Returns
 pub mod Exchanged
+pub mod Stepped

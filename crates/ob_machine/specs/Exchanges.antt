@@ -41,6 +41,7 @@ CanFollow u more input_end = u.at_end ≡ true → (more ≡ []) × (input_end �
 pub record Moves (d d' : Devices) (read written : List ℕ) : Type 0 where
   pub was_left : d.left ≡ prepend_known read d'.left
   pub knows_end : KnowsEnd d'.unread d'.left
+  pub ended : d.unread.at_end ≡ true → (read ≡ []) × (d'.unread.at_end ≡ true)
   pub read_quiet : d'.read_faults ≡ d.read_faults
   pub sent : SentOrPending d.taken d'.taken d.tally d'.tally d'.pending (d.pending ++ written)
   pub write_quiet : d'.write_faults ≡ d.write_faults
@@ -74,6 +75,10 @@ reading e input b = state_of e (record b { input = input })
 
 abbrev pub having_written : List ℕ → List ℕ → Beside → Beside
 having_written input written b = record b { input = input; output = b.output ++ written }
+
+-- an instruction counts once it is begun
+abbrev pub begun : Execution → Execution
+begun e = record e { count = e.count + 1 }
 
 -- ---- one instruction, as a definition says what it does on an input that ends so
 

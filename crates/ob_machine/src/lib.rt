@@ -14,5 +14,6 @@ mod first;
 mod laws;
 mod output;
 mod ports;
+mod steps;
 #[cfg(test)]
 mod tests;
