@@ -125,7 +125,7 @@ answers_as does told e f d d' (Ok answer) told_is a =
       moves = a.moves;
       same = λ input_end more b can. subst (λ x. Is answer x f (having_written (d'.unread.bytes ++ more) a.written b)) (sym (told_is input_end (d.unread.bytes ++ (a.read ++ more)) b)) (a.same input_end more b can);
     }
-answers_as does told e f d d' (Err Read) told_is a = record { none = a.none; refill = a.refill; same = λ b. told_is failed [] b ∙ a.same b }
+answers_as does told e f d d' (Err Read) told_is a = record { none = a.none; more = a.more; refill = a.refill; same = λ b. told_is failed [] b ∙ a.same b }
 answers_as does told e f d d' (Err Write) told_is a = a
 
 -- an instruction that needs no device

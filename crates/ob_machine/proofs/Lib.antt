@@ -4,10 +4,11 @@ pub mod IntRange
 pub mod Filled
 pub mod Tells
 pub mod Placed
-pub mod Runs
+pub mod WholeRuns
 pub mod Reached
 pub mod Words
 pub mod Handed
 pub mod Returns
 pub mod Exchanged
 pub mod Stepped
+pub mod Going

@@ -1,5 +1,5 @@
 -- What goes through the buffers while a run goes on, and where it fails at a device.
-use Rattle.std.specs.Prelude.{◌≡◌, ℕ, ◌+◌, ◌≤◌, true, List, [], ◌∷◌, ◌++◌, Option, Some, None, Result, Ok, Err}
+use Rattle.std.specs.Prelude.{◌≡◌, ℕ, ◌+◌, ◌≤◌, true, false, List, [], ◌∷◌, ◌++◌, Option, Some, None, Result, Ok, Err}
 use Rattle.std.specs.Io.KnownBytes.{prepend_known, IsAtEnd}
 use Rattle.ob_base.specs.Faults.{Rose}
 use Rattle.ob_base.specs.Sink.{Tally, TakesPrefix}
@@ -92,6 +92,7 @@ pub record Advances (does : InputEnd → State → Next) (e f : Execution) (d d'
 -- the source failed when all that it gave before was taken, and all that was written had been sent
 pub record FailsToRead (does : InputEnd → State → Next) (e f : Execution) (d d' : Devices) : Type 0 where
   pub none : d.unread.bytes ≡ []
+  pub more : d.unread.at_end ≡ false
   pub refill : RefillFailsToRead d d'
   pub same : (b : Beside) → does failed (reading e [] b) ≡ stops ReadFault (reading f [] b)
 

@@ -14,6 +14,7 @@ mod first;
 mod laws;
 mod output;
 mod ports;
+mod runs;
 mod steps;
 #[cfg(test)]
 mod tests;

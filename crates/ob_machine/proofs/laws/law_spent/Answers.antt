@@ -1,4 +1,4 @@
-use Rattle.ob_machine.proofs.Runs.{spent_reaches, reaches_spent}
+use Rattle.ob_machine.proofs.WholeRuns.{spent_reaches, reaches_spent}
 use Rattle.ob_machine.proofs.laws.law_spent.Goals as goal
 
 pub returns : goal.returns
