@@ -169,12 +169,16 @@ module _ (image : Image) (settings : RunSettings) (cycle : List ℕ) where
         same = g.same;
       }
 
+pub rows_then : (r s t : Loaded) → SameRows r s → SameRows s t → SameRows r t
+rows_then r s t p q =
+    record { statics = q.statics ∙ p.statics; pointers = q.pointers ∙ p.pointers; functions = q.functions ∙ p.functions; settings = q.settings ∙ p.settings }
+
 -- ---- a run stays ready
 
-any_settings : RunSettings
+pub any_settings : RunSettings
 any_settings = record { mode = Oblivious; store = 1; away = 0; heap = 0 }
 
-none_beside : Beside
+pub none_beside : Beside
 none_beside = record { input = []; output = []; events = []; place = 0 }
 
 -- the state that an instruction goes on to

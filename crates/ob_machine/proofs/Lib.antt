@@ -12,3 +12,4 @@ pub mod Returns
 pub mod Exchanged
 pub mod Stepped
 pub mod Going
+pub mod Gone

@@ -8,3 +8,4 @@ pub mod Laws
 pub mod Executions
 pub mod Effects
 pub mod Exchanges
+pub mod Wiring

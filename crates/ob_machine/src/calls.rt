@@ -60,6 +60,7 @@ impl Execution {
         requires next { self.old.space.space.next < 2 ^ 63 }
         ensures state { (r : Beside) → Is result (entering image.now f link arguments.now (state_of self.old r)) self.new r }
         ensures rows { SameRows self.old.space self.new.space }
+        ensures count { self.new.count ≡ self.old.count }
     {
         if self.space.enter(f, link).is_err() {
             return Some(Ending::Stack);

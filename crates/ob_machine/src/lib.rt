@@ -4,6 +4,7 @@
 
 pub use first::{FirstEnd, FirstInstr, lower_first, run_code};
 pub use laws::{law_places, law_spent};
+pub use machine::Machine;
 
 mod act;
 mod arithmetic;
@@ -12,6 +13,7 @@ mod calls;
 mod execution;
 mod first;
 mod laws;
+mod machine;
 mod output;
 mod ports;
 mod runs;

@@ -9,7 +9,7 @@ ghost use Rattle.ob_machine.specs.Executions.{Beside, Is, SameRows, setup, state
 
 use crate::execution::Execution;
 use crate::ports::{Fault, Ports};
-use ob_base::{Sink, Source};
+use ob_base::{Failed, Sink, Source};
 use ob_code::Image;
 use ob_model::Ending;
 
@@ -53,7 +53,7 @@ impl Execution {
                 Err(fault) => return Err(fault),
             }
             if ports.output.is_full() {
-                if ports.output.send(sink).is_err() {
+                if let Err(Failed) = ports.output.send(sink) {
                     return Err(Fault::Write);
                 }
             }
