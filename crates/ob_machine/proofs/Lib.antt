@@ -13,3 +13,4 @@ pub mod Exchanged
 pub mod Stepped
 pub mod Going
 pub mod Gone
+pub mod Finishing

@@ -9,3 +9,4 @@ pub mod Executions
 pub mod Effects
 pub mod Exchanges
 pub mod Wiring
+pub mod Finished

@@ -1,6 +1,6 @@
 ghost use Rattle.std.specs.Prelude.{◌≡◌, ◌≢◌, ◌≤◌, ◌*◌, ◌+◌, ◌<◌, IsTrue, IfOk, length, vec_capacity};
 ghost use Rattle.ob_base.specs.Faults.{Rose};
-ghost use Rattle.ob_model.specs.declared.endings.Ending.TheVariants.{NoMemory, ReadFault, WriteFault};
+ghost use Rattle.ob_model.specs.declared.endings.Ending.TheVariants as ending;
 ghost use Rattle.ob_model.specs.Settings.{IsFit};
 ghost use Rattle.ob_code.specs.Frames.{function_at};
 ghost use Rattle.ob_code.specs.Rules.{IsVerified};
@@ -106,5 +106,31 @@ impl Machine {
         self.ports.input.clear();
         self.ports.output.clear();
         self.fresh = true;
+    }
+
+    /// Runs the image on the bytes of `input`, and gives its output to `out`; `steps` is at most 10^9, and
+    /// the machine is fresh. Afterwards it isn't. Takes no memory.
+    ///
+    /// Bytes are read up to 4,096 at a time, so that more may be read than the program took; after the end
+    /// of the input no read is made. Output is written in pieces of 4,096 bytes, before each read, and at
+    /// the end. Where a read fails, the run ends with `ReadFault` once the program took all that was read
+    /// before. Where a write fails, it ends with `WriteFault`, and `out` has taken a prefix of the output.
+    /// `Spent` comes exactly where `(instructions in the code + 1) * (steps + 1)` instructions were done
+    /// and none of them ended the run.
+    pub fn run<S: Source, K: Sink>(&mut self, steps: u64, input: &mut S, out: &mut K) -> Ending
+        requires fresh { IsTrue self.old.is_fresh }
+        requires steps { steps ≤ 1000000000 }
+        ensures run { Runs self.old self.new steps result (record { left_before = S.left input.old; left_now = S.left input.new; faults_before = S.faults input.old; faults_now = S.faults input.new }) (record { taken_before = K.taken out.old; taken_now = K.taken out.new; tally_before = K.tally out.old; tally_now = K.tally out.new; faults_before = K.faults out.old; faults_now = K.faults out.new }) }
+        ensures read_fault { result ≡ ending.ReadFault → Rose (S.faults input.old) (S.faults input.new) }
+        ensures write_fault { result ≡ ending.WriteFault → Rose (K.faults out.old) (K.faults out.new) }
+        ensures memory { result ≢ ending.NoMemory }
+        ensures bound { self.new.instructions ≤ most_instructions self.old.image steps }
+    {
+        let image = self.image.image();
+        let limit = (image.code.as_slice().len() as u64 + 1) * (steps + 1);
+        self.fresh = false;
+        self.execution.left = steps;
+        self.execution
+            .run_out(image, &mut self.ports, input, out, limit)
     }
 }

@@ -3,7 +3,9 @@ ghost use Rattle.ob_model.specs.declared.settings.RunSettings.{RunSettings};
 ghost use Rattle.ob_code.specs.Machine.{after, runs};
 ghost use Rattle.ob_code.specs.Rules.{IsVerified};
 ghost use Rattle.ob_code.specs.Start.{started};
+ghost use Rattle.ob_machine.specs.Buffers.{nothing_read};
 ghost use Rattle.ob_machine.specs.Effects.{HasRoom, IsReady};
+ghost use Rattle.ob_machine.specs.Finished.{ComesOut};
 ghost use Rattle.ob_machine.specs.Exchanges.{KnowsEnd, RunAnswers, devices};
 ghost use Rattle.ob_machine.specs.Executions.{Beside, Is, SameRows, setup, state_of};
 
@@ -78,6 +80,32 @@ impl Execution {
         match self.start(image) {
             Some(ending) => Ok(ending),
             None => self.go(image, ports, source, sink, limit),
+        }
+    }
+
+    /// Starts a run, does at most `limit` instructions, and sends what is pending.
+    pub(crate) fn run_out<S: Source, K: Sink>(&mut self, image: &Image, ports: &mut Ports, source: &mut S, sink: &mut K, limit: u64) -> Ending
+        requires verified { IsVerified image.now }
+        requires rows { self.old.space.functions ≡ image.now.functions }
+        requires calls { self.old.space.space.calls ≡ [] }
+        requires numbered { self.old.space.space.next + 524288 * self.old.left < 2 ^ 62 }
+        requires count { self.old.count + limit < 2 ^ 63 }
+        requires arguments { HasRoom image.now (vec_capacity ports.old.arguments) }
+        requires input { ports.old.input ≡ nothing_read }
+        requires output { ports.old.output ≡ [] }
+        ensures comes { (settings : RunSettings) (cycle : List ℕ) (place : ℕ) → ComesOut (λ input_end s. after (started image.now s) (runs (setup image.now settings cycle input_end) limit)) self.old self.new (record { left_before = S.left source.old; left_now = S.left source.new; faults_before = S.faults source.old; faults_now = S.faults source.new }) (record { taken_before = K.taken sink.old; taken_now = K.taken sink.new; tally_before = K.tally sink.old; tally_now = K.tally sink.new; faults_before = K.faults sink.old; faults_now = K.faults sink.new }) place result }
+        ensures rows { SameRows self.old.space self.new.space }
+        ensures arguments { vec_capacity ports.new.arguments ≡ vec_capacity ports.old.arguments }
+    {
+        match self.run(image, ports, source, sink, limit) {
+            Ok(ending) => {
+                if let Err(Failed) = ports.output.send(sink) {
+                    return Ending::WriteFault;
+                }
+                ending
+            }
+            Err(Fault::Read) => Ending::ReadFault,
+            Err(Fault::Write) => Ending::WriteFault,
         }
     }
 }
