@@ -3,8 +3,20 @@
 #![tactic(auto)]
 
 pub use first::{FirstEnd, FirstInstr, lower_first, run_code};
+pub use laws::{law_places, law_spent};
+pub use machine::Machine;
 
+mod act;
+mod arithmetic;
+mod buffers;
+mod calls;
+mod execution;
 mod first;
+mod laws;
+mod machine;
 mod output;
+mod ports;
+mod runs;
+mod steps;
 #[cfg(test)]
 mod tests;
