@@ -3,7 +3,7 @@
 -- elements of an array lie one behind another. Each member of a structure stands at the least multiple of
 -- its alignment that is past the member before; the structure has the greatest alignment of its members,
 -- and its size is rounded up to it.
-use Rattle.std.specs.Prelude.{◌≡◌, ◌≤◌, ℕ, zero, suc, ◌+◌, ◌-◌, ◌*◌, ◌/◌, max, Bool, true, false, nat_le, if◌then◌else◌, Option, Some, None, option_map, option_and_then, List, [], ◌∷◌, length, slice_get, map, sum}
+use Rattle.std.specs.Prelude.{◌≡◌, ◌≤◌, ℕ, zero, suc, ◌+◌, ◌-◌, ◌*◌, ◌/◌, ◌%◌, max, Bool, true, false, nat_le, if◌then◌else◌, Option, Some, None, option_map, option_and_then, List, [], ◌∷◌, length, slice_get, map, sum}
 use Rattle.std.specs.Option.{is_some}
 use Rattle.std.specs.Str.{bytes_eq}
 use Rattle.ob_words.specs.declared.types.IntType.{IntType}
@@ -21,9 +21,13 @@ pub record Layout : Type 0 where
 abbrev pub most_bytes : ℕ
 most_bytes = 4194304
 
+-- how many bytes of padding follow n bytes up to a multiple of `align`
+abbrev pub padding : (n align : ℕ) → ℕ
+padding n align = (align - n % align) % align
+
 -- the least multiple of `align` that is at least n
 abbrev pub round_up : (n align : ℕ) → ℕ
-round_up n align = align * ((n + (align - 1)) / align)
+round_up n align = n + padding n align
 
 -- m is the least multiple of `align` that is at least n
 pub record IsRoundUp (n align m : ℕ) : Type 0 where

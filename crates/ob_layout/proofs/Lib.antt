@@ -1,0 +1,4 @@
+pub mod Caps
+pub mod Layouts
+pub mod Found
+pub mod Depths
