@@ -8,7 +8,8 @@ use Rattle.ob_tree.specs.declared.types.StructRow.{StructRow}
 use Rattle.ob_tree.specs.declared.types.Structs.{Structs}
 use Rattle.ob_tree.specs.Types.{PlainType, PlainMember, PlainStruct, PlainStructs}
 use Rattle.ob_tree.specs.TypeView.{plain_struct, plain_structs}
-use Rattle.ob_tree.specs.Sizes.{IsComplete, Layout, MemberPlace, laid, layout, appended, next_offset, no_layout, repeated, round_up, type_layout, members_layout, row_layout, row_member, size, struct_layout, member, member_from, most_bytes}
+use Rattle.ob_tree.specs.Sizes.{IsComplete, Layout, MemberPlace, laid, layout, appended, next_offset, no_layout, repeated, round_up, type_layout, members_layout, row_layout, row_member, struct_layout, member, member_from, most_bytes}
+use Rattle.ob_layout.proofs.Layouts.{fits_known, fits_within}
 use Rattle.ob_layout.specs.Capped.{capped_place, capped_pair, placed, cap}
 
 -- what is known on the left is known on the right
@@ -106,14 +107,15 @@ pub complete_member : (s : Structs) (n : ℕ) (row : StructRow) (name : List ℕ
     option_map capped_pair r ≡ option_map capped_place (member_from (struct_layout (length (plain_structs s)) (plain_structs s)) no_layout 0 (plain_struct row).members name) →
     r ≡ option_map placed (member (plain_structs s) n name)
 complete_member s n row name r at complete is =
+    let o = layout (plain_structs s) (PlainType.Struct n) in
+    let l = laid o in
+    let known_is = fits_known o complete in
     let known = struct_layout (length (plain_structs s)) (plain_structs s) in
     let there : slice_get (plain_structs s) n ≡ Some (plain_struct row) = slice_get-map plain_struct s.rows.items n ∙ ap (option_map plain_struct) at in
-    let whole = complete_members (plain_structs s) n (plain_struct row) complete.known.0 there complete.known.1 in
-    let o = member_from known no_layout 0 (plain_struct row).members name in
-    let inside = in_size known no_layout 0 (plain_struct row).members name complete.known.0 whole in
-    let size : size (plain_structs s) (PlainType.Struct n) ≡ complete.known.0.size = ap (λ o. (laid o).size) complete.known.1 in
-    let within : complete.known.0.size ≤ most_bytes = omega (arith, complete.within) in
-    exact_pair o r complete.known.0.size inside within is ∙ ap (λ o. option_map placed (row_member known o name)) (sym there)
+    let whole = complete_members (plain_structs s) n (plain_struct row) l there known_is in
+    let m = member_from known no_layout 0 (plain_struct row).members name in
+    let inside = in_size known no_layout 0 (plain_struct row).members name l whole in
+    exact_pair m r l.size inside (fits_within o complete) is ∙ ap (λ o. option_map placed (row_member known o name)) (sym there)
 
 pub no_member : (s : Structs) (n : ℕ) (name : List ℕ) → slice_get s.rows.items n ≡ None → None ≡ option_map placed (member (plain_structs s) n name)
 no_member s n name at =

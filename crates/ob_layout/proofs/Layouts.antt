@@ -1,9 +1,10 @@
 -- Layouts that are counted up to a cap, step by step, are those of the definition up to the cap.
-use Rattle.std.proofs.Common.{◌≡◌, ℕ, suc, ◌+◌, ◌<◌, ◌≤◌, Option, Some, None, option_map, List, [], ◌∷◌, length, drop, map, refl, sym, ap, arith, ◌∙◌, slice_index_or, get_or}
-use Rattle.std.specs.Prelude.{option_and_then, min}
+use Rattle.std.proofs.Common.{◌≡◌, true, ℕ, suc, ◌+◌, ◌<◌, ◌≤◌, Option, Some, None, option_map, List, [], ◌∷◌, length, drop, map, refl, sym, ap, arith, ◌∙◌, slice_index_or, get_or}
+use Rattle.std.specs.Prelude.{option_and_then, min, if◌then◌else◌}
 use Rattle.std.proofs.lemmas.Option.{none-some}
 use Rattle.std.proofs.Math.Seq.{drop-cons}
 use Rattle.std.proofs.Common.{add-one}
+use Rattle.std.proofs.lemmas.Bool.{leb-true}
 use Rattle.std.specs.List.{All}
 use Rattle.std.proofs.Common.{subst}
 use Rattle.std.proofs.lemmas.List.{length-map, get_or-map}
@@ -12,7 +13,7 @@ use Rattle.ob_tree.specs.declared.types.MemberRow.{MemberRow}
 use Rattle.ob_tree.specs.declared.types.Structs.{Structs}
 use Rattle.ob_tree.specs.Types.{PlainType, PlainMember, PlainStructs}
 use Rattle.ob_tree.specs.TypeView.{plain_type, plain_member, plain_struct, plain_structs}
-use Rattle.ob_tree.specs.Sizes.{IsComplete, Layout, no_layout, layout, struct_layout, most_bytes, laid, appended, repeated, type_layout, members_layout}
+use Rattle.ob_tree.specs.Sizes.{IsComplete, fits_object, Layout, no_layout, layout, struct_layout, most_bytes, laid, appended, repeated, type_layout, members_layout}
 use Rattle.ob_layout.specs.Capped.{capped, cap}
 use Rattle.ob_layout.specs.Spread.{innermost, spread}
 use Rattle.ob_layout.proofs.Caps.{capped_repeated, capped_twice, capped_appended, capped_appended_before, capped_padded, same_layout}
@@ -132,3 +133,11 @@ pub complete_at : (s : PlainStructs) (ts : List CType) (i : ℕ) (t : CType) →
 complete_at s ts i t all within is =
     let long : length (map plain_type ts) ≡ length ts = length-map ts plain_type in
     subst (IsComplete s) (get_or-map plain_type ts i t (plain_type t) within ∙ ap plain_type (sym is)) (all i (plain_type t) (omega arith))
+
+pub fits_known : (o : Option Layout) → fits_object o ≡ true → o ≡ Some (laid o)
+fits_known None h = ap (λ b. if b then Some no_layout else None) h
+fits_known (Some l) h = refl
+
+pub fits_within : (o : Option Layout) → fits_object o ≡ true → (laid o).size ≤ most_bytes
+fits_within None h = omega arith
+fits_within (Some l) h = leb-true l.size most_bytes h

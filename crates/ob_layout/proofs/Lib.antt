@@ -2,3 +2,4 @@ pub mod Caps
 pub mod Layouts
 pub mod Found
 pub mod Depths
+pub mod RoundUps

@@ -10,5 +10,8 @@ pub use sizes::{align, leaves, size};
 
 mod counted;
 mod frames;
+pub mod laws;
 mod members;
 mod sizes;
+#[cfg(test)]
+mod tests;
