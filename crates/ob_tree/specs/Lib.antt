@@ -16,3 +16,4 @@ pub mod ProgramView
 pub mod Types
 pub mod TypeView
 pub mod Sizes
+pub mod Parts
