@@ -18,3 +18,8 @@ pub mod Completeness
 pub mod AddressConstants
 pub mod Images
 pub mod Initialisers
+pub mod Declarations
+pub mod Statements
+pub mod Counts
+pub mod Functions
+pub mod Typing
