@@ -1,10 +1,10 @@
 -- Address constants (C99 6.6): a static object and an offset from 0 to its size, by members and by sums with
 -- constants; or the null pointer.
-use Rattle.std.specs.Prelude.{ℕ, ℤ, pos, ◌+ℤ◌, ◌-ℤ◌, ◌*ℤ◌, Bool, true, false, ◌&&◌, int_le, Option, Some, None, option_map, List, slice_get, unsigned_abs}
+use Rattle.std.specs.Prelude.{ℕ, ℤ, pos, ◌+ℤ◌, ◌-ℤ◌, ◌*ℤ◌, Bool, true, false, ◌&&◌, int_le, Option, Some, None, option_map, List, slice_get}
 use Rattle.std.specs.Option.{is_some}
 use Rattle.ob_words.specs.declared.types.IntType.TheVariants.{Long}
 use Rattle.ob_words.specs.Conversion.{convert}
-use Rattle.ob_tree.specs.Types.{PlainType, PlainStructs}
+use Rattle.ob_tree.specs.Types.{PlainStructs}
 use Rattle.ob_tree.specs.Types.{PlainType as type}
 use Rattle.ob_tree.specs.Sizes.{size}
 use Rattle.ob_typed.specs.TypedTree.{TypedExpr, TypedLean, TypedNode, TypedObject}

@@ -1,6 +1,6 @@
 -- Binary operators (C99 6.5.5 to 6.5.14) and the conditional operator (6.5.15): the rule of each, from what
 -- its operands are.
-use Rattle.std.specs.Prelude.{ℕ, Bool, true, false, ◌&&◌, ◌||◌, not, if◌then◌else◌, Option, Some, None, Ok}
+use Rattle.std.specs.Prelude.{Bool, true, false, ◌&&◌, ◌||◌, if◌then◌else◌, Option, Some, None, Ok}
 use Rattle.ob_words.specs.declared.types.IntType.{IntType}
 use Rattle.ob_words.specs.declared.types.IntType.TheVariants.{Int, Long}
 use Rattle.ob_words.specs.declared.types.BinOp.{BinOp}
@@ -19,8 +19,8 @@ use Rattle.ob_typed.specs.Completeness.{is_object_type}
 use Rattle.ob_typed.specs.TypedTree.{TypedExpr}
 use Rattle.ob_typed.specs.TypedTree.{TypedExpr as expr, TypedNode as node}
 use Rattle.ob_typed.specs.Faults.{Answer}
-use Rattle.ob_typed.specs.TypeTests.{is_scalar, is_struct, is_void, same_type}
-use Rattle.ob_typed.specs.Conversions.{Checked, as_int, as_type, fits_type, is_null, promoted, value, value_type}
+use Rattle.ob_typed.specs.TypeTests.{is_scalar, is_void, same_type}
+use Rattle.ob_typed.specs.Conversions.{Checked, as_int, as_type, is_null, value, value_type}
 use Rattle.ob_typed.specs.Conversions.{Checked as checked}
 use Rattle.ob_typed.specs.Places.{pointer_sum}
 use Rattle.ob_typed.specs.PostfixRules.{operand}

@@ -1,7 +1,7 @@
 -- Integer constant expressions and their values (C99 6.6). Such an expression consists of constants, casts to
 -- integer types, and arithmetic, comparing, logical and conditional operators, also in its parts that aren't
 -- evaluated. A division by zero counts only where it is evaluated.
-use Rattle.std.specs.Prelude.{ℕ, ℤ, pos, Bool, true, false, not, ◌&&◌, if◌then◌else◌, Option, Some, None, option_map, Result, Ok, Err}
+use Rattle.std.specs.Prelude.{ℤ, pos, Bool, true, false, not, ◌&&◌, if◌then◌else◌, Option, Some, None, option_map, Result, Ok, Err}
 use Rattle.std.specs.Ordering.{int_eq}
 use Rattle.ob_words.specs.declared.types.IntType.{IntType}
 use Rattle.ob_words.specs.declared.types.BinOp.{BinOp}

@@ -1,10 +1,10 @@
 -- Conversions (C99 6.3): what an expression is, its value, null pointer constants, and what converts to what.
-use Rattle.std.specs.Prelude.{ℕ, Bool, true, false, ◌&&◌, ◌||◌, if◌then◌else◌}
+use Rattle.std.specs.Prelude.{ℕ, Bool, true, false, ◌||◌, if◌then◌else◌}
 use Rattle.ob_words.specs.declared.types.IntType.{IntType}
 use Rattle.ob_words.specs.Types.{promote}
 use Rattle.ob_tree.specs.Types.{PlainType}
 use Rattle.ob_tree.specs.Types.{PlainType as type}
-use Rattle.ob_typed.specs.TypedTree.{TypedExpr, TypedPlace, TypedLean, TypedNode}
+use Rattle.ob_typed.specs.TypedTree.{TypedExpr, TypedLean}
 use Rattle.ob_typed.specs.TypedTree.{TypedExpr as expr, TypedPlace as place, TypedNode as node}
 use Rattle.ob_typed.specs.TypeTests.{same_int, same_type, is_void}
 use Rattle.ob_typed.specs.ConstantValues.{constant, is_zero}

@@ -1,7 +1,7 @@
 -- Declarations of objects (C99 6.7): the declarator of each, its own faults, then its initialiser. An object is
 -- known from its declarator on. A static object has its number from its name on, so that it comes before the
 -- string literals in its brackets and in its initialiser.
-use Rattle.std.specs.Prelude.{ℕ, zero, suc, Bool, true, false, if◌then◌else◌, Option, Some, None, Ok, Err, List, [], ◌∷◌, ◌++◌, length, slice_set}
+use Rattle.std.specs.Prelude.{ℕ, zero, Bool, true, false, if◌then◌else◌, Some, Ok, Err, List, [], ◌∷◌, ◌++◌, length, slice_set}
 use Rattle.ob_tree.specs.declared.faults.TypeKind.TheVariants as kind
 use Rattle.ob_tree.specs.Trees.{ObjTree, ObjTrees, SpecTree}
 use Rattle.ob_tree.specs.Trees.{ObjTree as declarator, ObjTrees as declarators, SpecTree as spec}
@@ -12,7 +12,7 @@ use Rattle.ob_typed.specs.declared.names.VarName.{VarName}
 use Rattle.ob_typed.specs.TypedTree.{TypedInit, TypedLean, TypedStmt, TypedObject, PlainImage}
 use Rattle.ob_typed.specs.TypedTree.{TypedLean as lean, TypedStmt as stmt}
 use Rattle.ob_typed.specs.Faults.{Answer, Walk, fault, next, by, then_rule, inside}
-use Rattle.ob_typed.specs.Scopes.{Known, Env, Declared, Meaning, declaring, find, is_at}
+use Rattle.ob_typed.specs.Scopes.{Known, Env, Declared, declaring, find, is_at}
 use Rattle.ob_typed.specs.Scopes.{Meaning as meaning}
 use Rattle.ob_typed.specs.Specifiers.{declarator_type, object_type, opened}
 use Rattle.ob_typed.specs.Strings.{with_static}

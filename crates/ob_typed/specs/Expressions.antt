@@ -1,9 +1,8 @@
 -- Expressions, and the specifiers and type names in them (C99 6.5, 6.7.2, 6.7.6): what each is, or its first
 -- fault. The parts come first, from left to right, then the rule of the whole.
-use Rattle.std.specs.Prelude.{ℕ, ◌+◌, negsuc, true, nat_eq, if◌then◌else◌, Option, Some, None, Ok, Err, List, [], ◌∷◌, ◌++◌}
+use Rattle.std.specs.Prelude.{ℕ, ◌+◌, negsuc, true, if◌then◌else◌, Option, Some, None, Ok, Err, List, [], ◌∷◌, ◌++◌}
 use Rattle.std.specs.Str.{bytes_eq}
 use Rattle.ob_words.specs.declared.types.IntType.TheVariants.{Int, ULong}
-use Rattle.ob_tree.specs.declared.tokens.Sign.{Sign}
 use Rattle.ob_tree.specs.Trees.{Mark, ExprTree, ExprTrees, TypeTree, SpecTree, MemberTrees, ObjTree, ObjTrees, DimTrees}
 use Rattle.ob_tree.specs.Trees.{ExprTree as tree, ExprTrees as trees, TypeTree as named, SpecTree as spec, MemberTrees as members, ObjTree as declarator, ObjTrees as declarators, DimTrees as dims}
 use Rattle.ob_tree.specs.Types.{PlainType, PlainMember, PlainStructs}

@@ -1,11 +1,10 @@
 -- Function declarators and their parameters (C99 6.7.5.3, 6.9.1).
-use Rattle.std.specs.Prelude.{ℕ, zero, suc, ◌+◌, Bool, true, false, ◌&&◌, ◌||◌, not, if◌then◌else◌, Option, Some, None, Ok, List, [], ◌∷◌, ◌++◌, map}
+use Rattle.std.specs.Prelude.{ℕ, suc, ◌+◌, Bool, true, false, ◌&&◌, ◌||◌, not, if◌then◌else◌, Option, Some, None, Ok, List, [], ◌∷◌, ◌++◌, map}
 use Rattle.std.specs.Str.{bytes_eq}
 use Rattle.ob_tree.specs.declared.faults.TypeKind.TheVariants as kind
 use Rattle.ob_tree.specs.Programs.{ParamTree, ParamsTree}
 use Rattle.ob_tree.specs.Programs.{ParamsTree as params}
 use Rattle.ob_tree.specs.Types.{PlainType}
-use Rattle.ob_tree.specs.Types.{PlainType as type}
 use Rattle.ob_typed.specs.declared.names.VarName.{VarName}
 use Rattle.ob_typed.specs.TypedTree.{TypedLean as lean}
 use Rattle.ob_typed.specs.Faults.{Answer, Walk, fault, next, by}

@@ -1,6 +1,6 @@
 -- What a static object holds at the start (C99 6.7.8): the bytes of its initialiser's numbers, the lowest
 -- first, and the pointers in it. Bytes that no item gives are 0.
-use Rattle.std.specs.Prelude.{ℕ, zero, suc, ◌+◌, ◌-◌, ℤ, pos, unsigned_abs, Option, Some, None, List, [], ◌∷◌, ◌++◌, length}
+use Rattle.std.specs.Prelude.{ℕ, zero, suc, ◌+◌, ◌-◌, ℤ, unsigned_abs, Option, Some, None, List, [], ◌∷◌, ◌++◌, length}
 use Rattle.ob_words.specs.declared.types.IntType.{IntType}
 use Rattle.ob_words.specs.Words.{word}
 use Rattle.ob_words.specs.Fields.{low_bytes}

@@ -1,18 +1,17 @@
 -- Initialisers (C99 6.7.8). Each item is judged when its expression was, before the next item; a list's own
 -- faults come after all its items. Items past the end are walked alone.
 use Rattle.std.specs.Prelude.{ℕ, zero, suc, ◌+◌, Bool, true, false, nat_eq, nat_le, if◌then◌else◌, Option, Some, None, Ok, List, [], ◌∷◌, ◌++◌, length}
-use Rattle.ob_words.specs.declared.types.IntType.{IntType}
 use Rattle.ob_tree.specs.declared.faults.TypeKind.TheVariants as kind
 use Rattle.ob_tree.specs.Trees.{Mark, ExprTree, InitTree, InitTrees}
 use Rattle.ob_tree.specs.Trees.{ExprTree as tree, InitTree as source, InitTrees as sources}
 use Rattle.ob_tree.specs.Types.{PlainType, PlainStructs}
 use Rattle.ob_tree.specs.Types.{PlainType as type}
 use Rattle.ob_tree.specs.Parts.{Part, part}
-use Rattle.ob_typed.specs.TypedTree.{TypedExpr, TypedLean, TypedInit, TypedInits, TypedObject}
+use Rattle.ob_typed.specs.TypedTree.{TypedExpr, TypedInit, TypedInits, TypedObject}
 use Rattle.ob_typed.specs.TypedTree.{TypedInit as init, TypedInits as inits, TypedPlace as place}
 use Rattle.ob_typed.specs.Faults.{Answer, Walk, fault, next, by}
 use Rattle.ob_typed.specs.Scopes.{Known, Env}
-use Rattle.ob_typed.specs.TypeTests.{is_char, is_struct, is_unusable, is_void}
+use Rattle.ob_typed.specs.TypeTests.{is_char, is_unusable, is_void}
 use Rattle.ob_typed.specs.Conversions.{Checked, as_type, fits, value, value_type}
 use Rattle.ob_typed.specs.Conversions.{Checked as checked}
 use Rattle.ob_typed.specs.AddressConstants.{is_static_value}

@@ -1,6 +1,6 @@
 -- Where an expression, an initialiser and a specifier stand.
 use Rattle.std.specs.Prelude.{ℕ}
-use Rattle.ob_tree.specs.Trees.{Mark, ExprTree, InitTree, InitTrees}
+use Rattle.ob_tree.specs.Trees.{Mark, ExprTree, InitTree}
 use Rattle.ob_tree.specs.Trees.{ExprTree as tree, InitTree as init}
 
 abbrev pub mark_of : ExprTree → Mark

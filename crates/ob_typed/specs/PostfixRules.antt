@@ -1,5 +1,5 @@
 -- Postfix expressions (C99 6.5.2) and names (6.5.1): the rule of each, from what its parts are.
-use Rattle.std.specs.Prelude.{ℕ, ◌+◌, ℤ, pos, Bool, true, false, ◌&&◌, ◌||◌, if◌then◌else◌, Option, Some, None, Ok, List, [], ◌∷◌, ◌++◌, length}
+use Rattle.std.specs.Prelude.{ℕ, ◌+◌, ℤ, pos, Bool, true, false, ◌||◌, if◌then◌else◌, Option, Some, None, Ok, List, [], ◌∷◌, ◌++◌}
 use Rattle.ob_words.specs.declared.types.IntType.{IntType}
 use Rattle.ob_words.specs.declared.types.IntType.TheVariants.{Int, ULong}
 use Rattle.ob_words.specs.declared.types.BinOp.TheVariants.{Add, Sub}

@@ -1,5 +1,5 @@
 -- Type specifiers and declarators (C99 6.7.2, 6.7.5, 6.7.6): the rule of each.
-use Rattle.std.specs.Prelude.{ℕ, zero, suc, ◌+◌, ℤ, pos, Bool, true, false, nat_lt, ◌&&◌, ◌||◌, if◌then◌else◌, Option, Some, None, Ok, Err, List, [], ◌∷◌, ◌++◌, length, slice_get, slice_set, unsigned_abs}
+use Rattle.std.specs.Prelude.{ℕ, zero, suc, ◌+◌, ℤ, pos, Bool, true, false, ◌||◌, if◌then◌else◌, Option, Some, None, Ok, Err, List, [], ◌∷◌, ◌++◌, length, slice_get, slice_set, unsigned_abs}
 use Rattle.std.specs.Prelude.{int_lt}
 use Rattle.std.specs.Str.{bytes_eq}
 use Rattle.ob_words.specs.declared.types.IntType.{IntType}
@@ -14,11 +14,11 @@ use Rattle.ob_tree.specs.Types.{PlainType as type}
 use Rattle.ob_tree.specs.Sizes.{is_complete}
 use Rattle.ob_typed.specs.Completeness.{is_object_type, is_sized}
 use Rattle.ob_typed.specs.TypedTree.{TypedExpr}
-use Rattle.ob_typed.specs.Faults.{Answer, Walk, fault}
+use Rattle.ob_typed.specs.Faults.{Answer, fault}
 use Rattle.ob_typed.specs.Scopes.{Known, TagDeclared, find_tag, tag_at}
 use Rattle.ob_typed.specs.TypeTests.{is_unusable}
 use Rattle.ob_typed.specs.ConstantValues.{constant}
-use Rattle.ob_typed.specs.Conversions.{Checked, value, value_type}
+use Rattle.ob_typed.specs.Conversions.{value_type}
 
 -- ---- integer types (6.7.2), by the words that name one
 

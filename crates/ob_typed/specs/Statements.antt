@@ -1,6 +1,6 @@
 -- Statements (C99 6.8): what each is, or its first fault. A selection or an iteration statement is a block, and
 -- so is each statement in it (6.8.4, 6.8.5); after a block the tags before it are in force again.
-use Rattle.std.specs.Prelude.{ℕ, suc, Bool, true, false, if◌then◌else◌, Option, Some, None, Ok, Err, List, [], ◌∷◌, ◌++◌}
+use Rattle.std.specs.Prelude.{ℕ, Bool, true, false, if◌then◌else◌, Option, Some, None, Ok, Err, List, [], ◌∷◌, ◌++◌}
 use Rattle.ob_tree.specs.declared.faults.TypeKind.TheVariants as kind
 use Rattle.ob_tree.specs.Trees.{Mark, ExprTree}
 use Rattle.ob_tree.specs.Programs.{StartTree, StmtTree, BlockTrees}

@@ -1,13 +1,13 @@
 -- String literals (C99 6.4.5): neighbouring ones are joined, a zero stands at the end, and the array of
 -- characters is a static object without a name.
-use Rattle.std.specs.Prelude.{ℕ, zero, ◌+◌, if◌then◌else◌, Bool, true, nat_eq, List, [], ◌∷◌, ◌++◌, length, Ok}
+use Rattle.std.specs.Prelude.{ℕ, zero, ◌+◌, if◌then◌else◌, List, [], ◌∷◌, ◌++◌, length, Ok}
 use Rattle.ob_words.specs.declared.types.IntType.TheVariants.{Char}
 use Rattle.ob_tree.specs.declared.faults.TypeKind.TheVariants as kind
 use Rattle.ob_tree.specs.Trees.{Mark}
-use Rattle.ob_tree.specs.Types.{PlainType, PlainStructs}
+use Rattle.ob_tree.specs.Types.{PlainType}
 use Rattle.ob_tree.specs.Types.{PlainType as type}
 use Rattle.ob_tree.specs.Sizes.{is_complete}
-use Rattle.ob_typed.specs.TypedTree.{PlainImage, TypedObject}
+use Rattle.ob_typed.specs.TypedTree.{TypedObject}
 use Rattle.ob_typed.specs.TypedTree.{TypedLean as lean}
 use Rattle.ob_typed.specs.Faults.{Walk, fault}
 use Rattle.ob_typed.specs.Scopes.{Known}

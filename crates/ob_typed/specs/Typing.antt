@@ -1,14 +1,14 @@
 -- Programs (C99 6.9): the items in order, then the functions that are called, or `main`, without a body. The typed
 -- tree of a program, or its first fault, is a function of the tree of the grammar.
-use Rattle.std.specs.Prelude.{◌≡◌, ℕ, zero, suc, min, Bool, true, false, nat_eq, ◌&&◌, if◌then◌else◌, Option, Some, None, Ok, Err, List, [], ◌∷◌, ◌++◌, length, map, slice_get}
+use Rattle.std.specs.Prelude.{◌≡◌, ℕ, min, Bool, true, false, nat_eq, ◌&&◌, if◌then◌else◌, Option, Some, None, Ok, Err, List, [], ◌∷◌, ◌++◌, length, map, slice_get}
 use Rattle.std.specs.Str.{bytes_eq}
 use Rattle.ob_words.specs.declared.types.IntType.TheVariants.{Int}
 use Rattle.ob_tree.specs.declared.faults.TypeKind.TheVariants as kind
-use Rattle.ob_tree.specs.Trees.{ObjTree, SpecTree}
+use Rattle.ob_tree.specs.Trees.{SpecTree}
 use Rattle.ob_tree.specs.Trees.{ObjTree as declarator}
 use Rattle.ob_tree.specs.Programs.{BlockTrees, FileTree, ItemTree, ParamsTree, ProgramTree, StmtTree}
 use Rattle.ob_tree.specs.Programs.{BlockTrees as items, FileTree as file, ItemTree as item, StmtTree as source}
-use Rattle.ob_tree.specs.Types.{PlainType, PlainStructs}
+use Rattle.ob_tree.specs.Types.{PlainType}
 use Rattle.ob_tree.specs.Types.{PlainType as type}
 use Rattle.ob_typed.specs.declared.names.Builtin.{Builtin}
 use Rattle.ob_typed.specs.declared.names.Builtin.TheVariants as builtin

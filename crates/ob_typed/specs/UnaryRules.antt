@@ -1,5 +1,5 @@
 -- Unary operators (C99 6.5.3) and casts (6.5.4): the rule of each, from what its operand is.
-use Rattle.std.specs.Prelude.{ℕ, ℤ, pos, negsuc, Bool, true, false, ◌&&◌, if◌then◌else◌, Ok}
+use Rattle.std.specs.Prelude.{pos, negsuc, Bool, true, false, if◌then◌else◌, Ok}
 use Rattle.ob_words.specs.declared.types.IntType.{IntType}
 use Rattle.ob_words.specs.declared.types.IntType.TheVariants.{Int, ULong}
 use Rattle.ob_words.specs.declared.types.BinOp.TheVariants.{Sub, Xor}
@@ -17,7 +17,7 @@ use Rattle.ob_typed.specs.Completeness.{is_object_type, is_sized}
 use Rattle.ob_typed.specs.TypedTree.{TypedExpr}
 use Rattle.ob_typed.specs.TypedTree.{TypedExpr as expr, TypedNode as node}
 use Rattle.ob_typed.specs.Faults.{Answer, fault}
-use Rattle.ob_typed.specs.Conversions.{Checked, as_int, is_null_number, type_of, value, value_type}
+use Rattle.ob_typed.specs.Conversions.{Checked, as_int, is_null_number, value, value_type}
 use Rattle.ob_typed.specs.Conversions.{Checked as checked}
 use Rattle.ob_typed.specs.Places.{pointed_to}
 use Rattle.ob_typed.specs.PostfixRules.{number, operand}
