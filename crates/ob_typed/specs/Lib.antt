@@ -23,3 +23,8 @@ pub mod Statements
 pub mod Counts
 pub mod Functions
 pub mod Typing
+pub mod Examples
+pub mod FaultExamples
+pub mod MoreFaultExamples
+pub mod SourceExamples
+pub mod TypedExamples
