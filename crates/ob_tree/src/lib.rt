@@ -23,5 +23,7 @@ mod programs;
 mod spelling;
 mod statement;
 mod sum;
+#[cfg(test)]
+mod tests;
 mod text;
 mod tokens;
