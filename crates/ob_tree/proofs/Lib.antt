@@ -4,3 +4,4 @@ pub mod Prints
 pub mod Lists
 pub mod ProgramRows
 pub mod Rows
+pub mod Examples

@@ -13,3 +13,9 @@ pub mod Spelling
 pub mod ProgramSpelling
 pub mod ExpressionView
 pub mod ProgramView
+pub mod Levels
+pub mod Integers
+pub mod Valid
+pub mod Places
+pub mod Paths
+pub mod Fronts
