@@ -19,3 +19,7 @@ pub mod Valid
 pub mod Places
 pub mod Paths
 pub mod Fronts
+pub mod ProgramValid
+pub mod ProgramPlaces
+pub mod ProgramPaths
+pub mod ProgramFronts
