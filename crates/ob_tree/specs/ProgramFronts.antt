@@ -1,6 +1,6 @@
 -- What it means that tokens begin a program, and that they are one. For the parser's faults: the first place where
 -- they begin none, or none whose paths keep the limit.
-use Rattle.std.specs.Prelude.{◌≡◌, ℕ, List, length, map}
+use Rattle.std.specs.Prelude.{◌≡◌, ℕ, List, length}
 use Rattle.ob_tree.specs.declared.tokens.Token.{Token}
 use Rattle.ob_tree.specs.declared.tokens.TokenKind.{TokenKind}
 use Rattle.ob_tree.specs.Programs.{ProgramTree}

@@ -1,6 +1,6 @@
 -- The grammar of statements and external declarations (C99 6.7 to 6.9), with the conditions that its rules
 -- don't show.
-use Rattle.std.specs.Prelude.{ℕ, zero, suc, ◌≡◌, Bool, false, true, not, List, [], ◌∷◌, Option, Some, None, IsTrue}
+use Rattle.std.specs.Prelude.{ℕ, zero, ◌≡◌, Bool, false, true, List, [], ◌∷◌, Option, Some, None}
 use Rattle.std.specs.List.{AllByRecursion}
 use Rattle.ob_tree.specs.Trees.{ExprTree, SpecTree, ObjTrees, DimTrees}
 use Rattle.ob_tree.specs.Programs.{LocalTree, StartTree, StmtTree, BlockTrees, ParamTree, ParamsTree, FileTree, ItemTree, ProgramTree}
