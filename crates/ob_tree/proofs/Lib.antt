@@ -5,3 +5,4 @@ pub mod Lists
 pub mod ProgramRows
 pub mod Rows
 pub mod Examples
+pub mod Machine
