@@ -6,3 +6,7 @@ pub mod ProgramRows
 pub mod Rows
 pub mod Examples
 pub mod Machine
+pub mod PlaceKeeps
+pub mod Settled
+pub mod SignSteps
+pub mod Runs
