@@ -10,3 +10,5 @@ pub mod PlaceKeeps
 pub mod Settled
 pub mod SignSteps
 pub mod Runs
+pub mod FirstTokens
+pub mod IntegerWords
