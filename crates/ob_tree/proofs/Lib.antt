@@ -12,3 +12,4 @@ pub mod SignSteps
 pub mod Runs
 pub mod FirstTokens
 pub mod IntegerWords
+pub mod SpecSteps

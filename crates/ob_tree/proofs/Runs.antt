@@ -32,3 +32,8 @@ module _ (lines : ℕ → ℕ) (least : ℕ) where
   -- one place for another
   pub run-from : (p q : ℕ) (ks : List TokenKind) (s : Option State) → p ≡ q → run lines least p ks s ≡ run lines least q ks s
   run-from p q ks s e = ap (λ r. run lines least r ks s) e
+
+  -- one token, and the rest
+  pub run-step : (p : ℕ) (k : TokenKind) (ks : List TokenKind) (s : State) (o : Option State)
+      → step least (here lines p) k s ≡ o → run lines least p (k ∷ ks) (Some s) ≡ run lines least (p + 1) ks o
+  run-step p k ks s o e = ap (λ x. run lines least (p + 1) ks x) e
