@@ -13,3 +13,4 @@ pub mod Runs
 pub mod FirstTokens
 pub mod IntegerWords
 pub mod SpecSteps
+pub mod Through

@@ -51,7 +51,7 @@ module _ (lines : ℕ → ℕ) where
   pub at-place : (p n : ℕ) (t : ExprTree) → n ≤ level_of t → n ≤ level_of (place lines p t)
   at-place p n t h = rw level-place h
 
-  has-member : (p : ℕ) (ms : MemberTrees) → HasMember ms → HasMember (place_members lines p ms)
+  pub has-member : (p : ℕ) (ms : MemberTrees) → HasMember ms → HasMember (place_members lines p ms)
   has-member p MemberTrees.NoMembers h = h
   has-member p (MemberTrees.MemberLine s names ms) h = tt
 
@@ -121,7 +121,7 @@ module _ (lines : ℕ → ℕ) where
     valid-names p ObjTrees.NoDeclarators v = tt
     valid-names p (ObjTrees.Declarator o os) v = (valid-name p o v.0, valid-names (p + width_obj o + 1) os v.1)
 
-    valid-name : (p : ℕ) (o : ObjTree) → ValidMemberName o → ValidMemberName (place_obj lines p o)
+    pub valid-name : (p : ℕ) (o : ObjTree) → ValidMemberName o → ValidMemberName (place_obj lines p o)
     valid-name p (ObjTree.Bare n name a ds) v = (v.0, valid-dims (p + n + 1) ds v.1)
     valid-name p (ObjTree.Initial n name a ds i) v = v
 
