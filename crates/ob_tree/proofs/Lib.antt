@@ -6,3 +6,12 @@ pub mod ProgramRows
 pub mod Rows
 pub mod Examples
 pub mod ProgramExamples
+pub mod Machine
+pub mod PlaceKeeps
+pub mod Settled
+pub mod SignSteps
+pub mod Runs
+pub mod FirstTokens
+pub mod IntegerWords
+pub mod SpecSteps
+pub mod Through
