@@ -15,3 +15,5 @@ pub mod FirstTokens
 pub mod IntegerWords
 pub mod SpecSteps
 pub mod Through
+pub mod ProgramStates
+pub mod ProgramMachine
