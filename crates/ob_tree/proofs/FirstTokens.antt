@@ -30,7 +30,7 @@ pub record FirstOf (Fits : TokenKind → Type 0) (tokens : List TokenKind) : Typ
   pub are : tokens ≡ token ∷ rest
   pub fits : Fits token
 
-first-more : (Fits : TokenKind → Type 0) (tokens more : List TokenKind) → FirstOf Fits tokens → FirstOf Fits (tokens ++ more)
+pub first-more : (Fits : TokenKind → Type 0) (tokens more : List TokenKind) → FirstOf Fits tokens → FirstOf Fits (tokens ++ more)
 first-more Fits tokens more f = record { token = f.token; rest = f.rest ++ more; are = ap (λ ks. ks ++ more) f.are; fits = f.fits }
 
 step-begins : (down : Bool) → BeginsOperand (kind.Sign (step_sign down))

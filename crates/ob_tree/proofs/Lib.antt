@@ -17,3 +17,5 @@ pub mod SpecSteps
 pub mod Through
 pub mod ProgramStates
 pub mod ProgramMachine
+pub mod ProgramRuns
+pub mod ProgramInits
