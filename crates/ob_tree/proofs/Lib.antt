@@ -19,3 +19,4 @@ pub mod ProgramStates
 pub mod ProgramMachine
 pub mod ProgramRuns
 pub mod ProgramInits
+pub mod ProgramParams

@@ -83,7 +83,7 @@ after_option u (Some e) = Reading u (settled e [])
 pub read-option : (lines : ℕ → ℕ) (u : Use) (o : Option ExprTree) (p : ℕ) → AtLevel (use_level u) o
     → Reads lines p (spell_option o) (Optional u) (p + width_option o) (after_option u (place_option lines p o))
 read-option lines u None p v = counted nothing
-read-option lines u (Some e) p v = restart (Reading u (expr.Operand [])) StartsExpr (first-expr e v.0) (optional-starts u) (read-expr lines u e p v)
+read-option lines u (Some e) p v = restart (Reading u (expr.Operand [])) StartsExpr (first-expr e v.0) (optional-starts u (here lines p)) (read-expr lines u e p v)
 
 pub option-ends : (lines : ℕ → ℕ) (u : Use) (o : Option ExprTree) (p : ℕ) (m : Mark) (k : TokenKind) (t : State) → AtLevel (use_level u) o
     → Ends (use_level u) k → used k u (place_option lines p o) ≡ Some t → step m k (after_option u (place_option lines p o)) ≡ Some t
@@ -165,7 +165,7 @@ module _ (lines : ℕ → ℕ) (t : Target) where
     pub read-init : (i : InitTree) (is : List Braces) (p : ℕ) → ValidInit i
         → Reads lines p (spell_init i) (Init t is) (p + width_init i) (after_init t is (place_init lines p i))
     read-init (InitTree.Value e) is p v =
-        restart (Reading (Item t is) (expr.Operand [])) StartsExpr (first-expr e v.0) (init-starts t is) (read-expr lines (Item t is) e p v)
+        restart (Reading (Item t is) (expr.Operand [])) StartsExpr (first-expr e v.0) (init-starts t is (here lines p)) (read-expr lines (Item t is) e p v)
     read-init (InitTree.Braces f InitTrees.NoItems comma) is p v = absurd v.0
     read-init (InitTree.Braces f (InitTrees.Item i xs) comma) is p v =
         let b : Braces = record { first = p; items = InitTrees.NoItems } in

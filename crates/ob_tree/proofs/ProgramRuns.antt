@@ -71,11 +71,11 @@ shifted {lines = lines} {p = p} {xs = xs} {s = s} {t = t} e x = subst (λ z. Rea
 
 -- A state that does with the first token what another does leads where that one leads.
 pub restart : {lines : ℕ → ℕ} {p q : ℕ} {xs : List TokenKind} {s t : State} → (other : State) (Fits : TokenKind → Type 0) → FirstOf Fits xs
-    → ((m : Mark) (k : TokenKind) → Fits k → step m k s ≡ step m k other) → Reads lines p xs other q t → Reads lines p xs s q t
+    → ((k : TokenKind) → Fits k → step (here lines p) k s ≡ step (here lines p) k other) → Reads lines p xs other q t → Reads lines p xs s q t
 restart {lines = lines} {p = p} {xs = xs} {s = s} {t = t} other Fits f same r = record { runs = agree ∙ r.runs; ends = r.ends }
   where
     agree : run lines p xs (Some s) ≡ run lines p xs (Some other)
-    agree = rw f.are (ap (λ o. run lines (p + 1) f.rest o) (same (here lines p) f.token f.fits))
+    agree = rw f.are (ap (λ o. run lines (p + 1) f.rest o) (same f.token f.fits))
 
 -- The machine that reads expressions goes on in this one.
 expr-lift : (lines : ℕ → ℕ) (u : Use) (ks : List TokenKind) (p : ℕ) (s t : expr.State)
