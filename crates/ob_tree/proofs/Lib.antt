@@ -20,3 +20,4 @@ pub mod ProgramMachine
 pub mod ProgramRuns
 pub mod ProgramInits
 pub mod ProgramParams
+pub mod ProgramNames
