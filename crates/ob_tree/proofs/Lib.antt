@@ -21,3 +21,5 @@ pub mod ProgramRuns
 pub mod ProgramInits
 pub mod ProgramParams
 pub mod ProgramNames
+pub mod ProgramDeclarations
+pub mod ProgramThrough

@@ -159,12 +159,12 @@ read-files lines x (y ∷ ys) d p v vs o os =
     )
 
 -- A declarator begins with a star or a name.
-abbrev StartsName : TokenKind → Type 0
+abbrev pub StartsName : TokenKind → Type 0
 StartsName (kind.Sign sign.Star) = Unit {0}
 StartsName (kind.Name name) = Unit {0}
 StartsName k = ⊥
 
-stars-first : (n : ℕ) (name : List ℕ) (ks : List TokenKind) → FirstOf StartsName (stars n ++ kind.Name name ∷ ks)
+pub stars-first : (n : ℕ) (name : List ℕ) (ks : List TokenKind) → FirstOf StartsName (stars n ++ kind.Name name ∷ ks)
 stars-first zero name ks = record { token = kind.Name name; rest = ks; are = refl; fits = tt }
 stars-first (suc n) name ks = record { token = kind.Sign sign.Star; rest = stars n ++ kind.Name name ∷ ks; are = refl; fits = tt }
 
@@ -173,7 +173,7 @@ file-first (FileTree.Function n name a ps) = stars-first n name _
 file-first (FileTree.Object (ObjTree.Bare n name a ds)) = stars-first n name _
 file-first (FileTree.Object (ObjTree.Initial n name a ds i)) = stars-first n name _
 
-name-starts : (h : Heading) (s : SpecTree) (m : Mark) (k : TokenKind) → StartsName k
+pub name-starts : (h : Heading) (s : SpecTree) (m : Mark) (k : TokenKind) → StartsName k
     → step m k (Specifying (ForDeclaration h) (expr.AfterSpec s [])) ≡ step m k (Declare (record { heading = h; spec = s; names = [] }) 0)
 name-starts h s m (kind.Sign sign.Star) f = refl
 name-starts h s m (kind.Name name) f = refl
