@@ -23,3 +23,4 @@ pub mod ProgramParams
 pub mod ProgramNames
 pub mod ProgramDeclarations
 pub mod ProgramThrough
+pub mod OneProgram

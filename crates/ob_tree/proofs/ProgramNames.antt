@@ -179,7 +179,7 @@ name-starts h s m (kind.Sign sign.Star) f = refl
 name-starts h s m (kind.Name name) f = refl
 name-starts h s m _ f = absurd f
 
-tagged : (tag : Option (List ℕ)) → HasTag tag → is_tagged tag ≡ true
+pub tagged : (tag : Option (List ℕ)) → HasTag tag → is_tagged tag ≡ true
 tagged None h = absurd h
 tagged (Some tag) h = refl
 
