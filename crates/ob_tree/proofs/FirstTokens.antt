@@ -1,5 +1,5 @@
 -- What expressions and specifiers begin with, and that the machine tells them apart by it.
-use Rattle.std.proofs.Common.{◌≡◌, ℕ, ◌+◌, ◌≤◌, ◌⊎◌, inl, inr, List, [], ◌∷◌, ◌++◌, map, Bool, true, false, Option, Some, refl, sym, ◌∙◌, ap, arith}
+use Rattle.std.proofs.Common.{◌≡◌, ℕ, ◌+◌, ◌≤◌, ◌⊎◌, inl, inr, List, [], ◌∷◌, ◌++◌, map, Bool, true, false, Some, refl, sym, ◌∙◌, ap, arith}
 use Rattle.std.specs.Prelude.{IsTrue}
 use Rattle.ob_tree.specs.declared.tokens.TokenKind.{TokenKind}
 use Rattle.ob_tree.specs.declared.tokens.TokenKind.TheVariants as kind
@@ -7,13 +7,13 @@ use Rattle.ob_tree.specs.declared.tokens.Keyword.{Keyword}
 use Rattle.ob_tree.specs.declared.tokens.Keyword.TheVariants as word
 use Rattle.ob_tree.specs.declared.tokens.Sign.{Sign}
 use Rattle.ob_tree.specs.declared.tokens.Sign.TheVariants as sign
-use Rattle.ob_tree.specs.Trees.{Mark, ExprTree, ExprTrees, SpecTree, MemberTrees}
-use Rattle.ob_tree.specs.Spelling.{spell, spell_arguments, spell_more_arguments, spell_type, spell_spec, spell_members, spell_name, infix_sign, step_sign}
+use Rattle.ob_tree.specs.Trees.{Mark, ExprTree, ExprTrees, SpecTree}
+use Rattle.ob_tree.specs.Spelling.{spell, spell_arguments, spell_type, spell_spec, spell_members, spell_name, infix_sign, step_sign}
 use Rattle.ob_tree.specs.Integers.{is_integer}
 use Rattle.ob_tree.specs.Levels.{is_unary, level_of}
 use Rattle.ob_tree.specs.Valid.{Valid, ValidSpec}
 use Rattle.ob_tree.specs.Places.{here}
-use Rattle.ob_tree.proofs.Machine.{Frame, InParen, InCall, InSize, InType, InStruct, Body, State, Operand, Open, Size, SizeOpen, Called, Specifier, Members, operand, opened, size_opened, sized, called, members_to, specifier, is_spec_word, run, top_hole}
+use Rattle.ob_tree.proofs.Machine.{Frame, InParen, InCall, InSize, InType, InStruct, Body, Operand, Open, Size, SizeOpen, Called, Specifier, Members, operand, opened, size_opened, sized, called, members_to, specifier, is_spec_word, run, top_hole}
 use Rattle.ob_tree.proofs.Settled.{le-yes, infix-most}
 use Rattle.ob_tree.proofs.SignSteps.{no}
 
@@ -244,8 +244,8 @@ module _ (lines : ℕ → ℕ) (least p : ℕ) where
       go ks (inr f) =
           let m = here lines (p + 1) in
           rw f.are (
-            ap (λ o. run lines least (p + 1 + 1) f.rest o) (size-opened-operand m size (here lines p) f.token fs f.begins)
-            ∙ ap (λ o. run lines least (p + 1 + 1) f.rest o) (sym (opened-operand least m (here lines p) f.token (InSize size ∷ fs) f.begins))
+          ap (λ o. run lines least (p + 1 + 1) f.rest o) (size-opened-operand m size (here lines p) f.token fs f.begins)
+          ∙ ap (λ o. run lines least (p + 1 + 1) f.rest o) (sym (opened-operand least m (here lines p) f.token (InSize size ∷ fs) f.begins))
           )
 
   pub open-spec-run : (paren : Mark) (s : SpecTree) (fs : List Frame) → ValidSpec s → top_hole least fs ≤ 13

@@ -14,3 +14,4 @@ pub mod FirstTokens
 pub mod IntegerWords
 pub mod SpecSteps
 pub mod Through
+pub mod OneTree

@@ -1,19 +1,18 @@
 -- The machine reads each valid tree from its spelling, and leaves the tree with its places.
-use Rattle.std.proofs.Common.{◌≡◌, ℕ, zero, suc, ◌+◌, ◌≤◌, List, [], ◌∷◌, ◌++◌, length, map, Bool, false, true, Option, Some, refl, sym, ◌∙◌, ap, arith, append_assoc, append-nil, length-append}
+use Rattle.std.proofs.Common.{◌≡◌, ℕ, suc, ◌+◌, ◌≤◌, List, [], ◌∷◌, ◌++◌, length, map, Bool, false, true, Option, Some, refl, sym, ◌∙◌, ap, arith, append_assoc, append-nil, length-append}
 use Rattle.std.specs.Prelude.{IsTrue}
 use Rattle.ob_tree.specs.declared.tokens.TokenKind.{TokenKind}
 use Rattle.ob_tree.specs.declared.tokens.TokenKind.TheVariants as kind
-use Rattle.ob_tree.specs.declared.tokens.Keyword.TheVariants as word
 use Rattle.ob_tree.specs.declared.tokens.Sign.{Sign}
 use Rattle.ob_tree.specs.declared.tokens.Sign.TheVariants as sign
 use Rattle.ob_tree.specs.Trees.{Mark, Infix, ExprTree, ExprTrees, TypeTree, SpecTree, MemberTrees, ObjTree, ObjTrees, DimTrees}
-use Rattle.ob_tree.specs.Spelling.{spell, spell_more_arguments, spell_type, spell_spec, spell_members, spell_objs, spell_more_objs, spell_obj, spell_dims, spell_name, stars, infix_sign}
-use Rattle.ob_tree.specs.Levels.{is_unary, infix_level, left_level, level_of}
+use Rattle.ob_tree.specs.Spelling.{spell, spell_more_arguments, spell_type, spell_spec, spell_members, spell_objs, spell_more_objs, spell_obj, spell_dims, stars, infix_sign}
+use Rattle.ob_tree.specs.Levels.{is_unary, infix_level, left_level}
 use Rattle.ob_tree.specs.Valid.{Valid, ValidArguments, ValidType, ValidSpec, ValidMembers, ValidMemberNames, ValidMemberName, ValidDims, HasDeclarator, IsOf}
 use Rattle.ob_tree.specs.Places.{here, signed, place, place_arguments, place_type, place_spec, place_members, place_objs, place_obj, place_dims, width, width_name, width_type, width_spec, width_objs, width_obj, width_dims}
-use Rattle.ob_tree.proofs.Machine.{Head, OfType, OfMember, Body, Line, Frame, InParen, InIndex, InCall, InStep, InUnary, InSize, InCast, InJoin, InThen, InElse, InLength, InType, InStruct, State, Operand, Open, Size, SizeOpen, Called, Select, After, Specifier, Members, Declare, Dims, AfterSpec, add_argument, add_dim, ended, operand, top_hole, step, run}
+use Rattle.ob_tree.proofs.Machine.{Head, OfType, OfMember, Body, Line, Frame, InParen, InIndex, InCall, InStep, InUnary, InSize, InCast, InJoin, InThen, InElse, InLength, InType, InStruct, State, Operand, Open, SizeOpen, Called, Select, After, Specifier, Members, Declare, Dims, AfterSpec, add_argument, add_dim, ended, operand, top_hole, step, run}
 use Rattle.ob_tree.proofs.PlaceKeeps.{mark-place, valid-place, of-place, valid-name, has-member}
-use Rattle.ob_tree.proofs.Settled.{settled, infix-most}
+use Rattle.ob_tree.proofs.Settled.{settled}
 use Rattle.ob_tree.proofs.SignSteps.{no, step-join, step-question, step-index, step-dot, step-arrow, step-up, step-down, step-paren, step-argument, step-called, step-bracket, step-length, step-colon}
 use Rattle.ob_tree.proofs.Runs.{run-on, run-then, run-from, run-step}
 use Rattle.ob_tree.proofs.FirstTokens.{open-run, call-run, size-run, open-spec-run, size-spec-run, members-run}
