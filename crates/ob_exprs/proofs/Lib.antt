@@ -1,2 +1,4 @@
 pub mod Begun
 pub mod Heights
+pub mod Within
+pub mod Reach

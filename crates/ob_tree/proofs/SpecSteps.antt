@@ -104,7 +104,7 @@ module _ (lines : ℕ → ℕ) (least : ℕ) where
       ∙ words-run (p + 1) f (xs ++ w ∷ []) ws fs again
       ∙ ap (λ x. Some (AfterSpec (SpecTree.Integer f x) fs)) (append_assoc xs (w ∷ []) ws)
 
-  integer-starts : (p : ℕ) (w : Keyword) (ws : List Keyword) (fs : List Frame) → IsTrue (is_integer (w ∷ ws))
+  pub integer-starts : (p : ℕ) (w : Keyword) (ws : List Keyword) (fs : List Frame) → IsTrue (is_integer (w ∷ ws))
       → spec_word p w fs ≡ Some (AfterSpec (SpecTree.Integer p (w ∷ [])) fs)
   integer-starts p word.Char ws fs h = refl
   integer-starts p word.Short ws fs h = refl
