@@ -1,5 +1,5 @@
 -- What expressions and specifiers begin with, and that the machine tells them apart by it.
-use Rattle.std.proofs.Common.{◌≡◌, ℕ, ◌+◌, ◌≤◌, ◌⊎◌, inl, inr, List, [], ◌∷◌, ◌++◌, map, Bool, true, false, Option, Some, refl, sym, ◌∙◌, ap, arith}
+use Rattle.std.proofs.Common.{◌≡◌, ℕ, suc, ◌+◌, ◌≤◌, ◌⊎◌, inl, inr, List, [], ◌∷◌, ◌++◌, map, take, Bool, true, false, Some, refl, sym, ◌∙◌, ap, arith}
 use Rattle.std.specs.Prelude.{IsTrue}
 use Rattle.ob_tree.specs.declared.tokens.TokenKind.{TokenKind}
 use Rattle.ob_tree.specs.declared.tokens.TokenKind.TheVariants as kind
@@ -7,13 +7,13 @@ use Rattle.ob_tree.specs.declared.tokens.Keyword.{Keyword}
 use Rattle.ob_tree.specs.declared.tokens.Keyword.TheVariants as word
 use Rattle.ob_tree.specs.declared.tokens.Sign.{Sign}
 use Rattle.ob_tree.specs.declared.tokens.Sign.TheVariants as sign
-use Rattle.ob_tree.specs.Trees.{Mark, ExprTree, ExprTrees, SpecTree, MemberTrees}
-use Rattle.ob_tree.specs.Spelling.{spell, spell_arguments, spell_more_arguments, spell_type, spell_spec, spell_members, spell_name, infix_sign, step_sign}
+use Rattle.ob_tree.specs.Trees.{Mark, ExprTree, ExprTrees, SpecTree}
+use Rattle.ob_tree.specs.Spelling.{spell, spell_arguments, spell_type, spell_spec, spell_members, spell_name, infix_sign, step_sign}
 use Rattle.ob_tree.specs.Integers.{is_integer}
 use Rattle.ob_tree.specs.Levels.{is_unary, level_of}
 use Rattle.ob_tree.specs.Valid.{Valid, ValidSpec}
 use Rattle.ob_tree.specs.Places.{here}
-use Rattle.ob_tree.proofs.Machine.{Frame, InParen, InCall, InSize, InType, InStruct, Body, State, Operand, Open, Size, SizeOpen, Called, Specifier, Members, operand, opened, size_opened, sized, called, members_to, specifier, is_spec_word, run, top_hole}
+use Rattle.ob_tree.proofs.Machine.{Frame, InParen, InCall, InSize, InType, InStruct, Body, Operand, Open, Size, SizeOpen, Called, Specifier, Members, operand, opened, size_opened, sized, called, members_to, specifier, is_spec_word, run, top_hole}
 use Rattle.ob_tree.proofs.Settled.{le-yes, infix-most}
 use Rattle.ob_tree.proofs.SignSteps.{no}
 
@@ -221,47 +221,47 @@ members-spec p (kind.Number value ty) b fs h = absurd h
 members-spec p (kind.Str s) b fs h = absurd h
 members-spec p (kind.Sign s) b fs h = absurd h
 
--- The same in runs over a whole spelling.
+-- what is read of a spelling, where it isn't nothing, begins as the spelling does
+pub first-take : (Fits : TokenKind → Type 0) (k : ℕ) (tokens : List TokenKind) → FirstOf Fits tokens → FirstOf Fits (take (suc k) tokens)
+first-take Fits k tokens f = record { token = f.token; rest = take k f.rest; are = ap (take (suc k)) f.are; fits = f.fits }
+
+pub paren-take : (k : ℕ) (tokens : List TokenKind) → ParenFirst tokens → ParenFirst (take (suc (suc k)) tokens)
+paren-take k tokens f = record { token = f.token; rest = take k f.rest; are = ap (take (suc (suc k))) f.are; begins = f.begins }
+
+-- Runs over what begins so.
 module _ (lines : ℕ → ℕ) (least p : ℕ) where
-  pub open-run : (paren : Mark) (t : ExprTree) (fs : List Frame) → Valid t
-      → run lines least p (spell t) (Some (Open paren fs)) ≡ run lines least p (spell t) (Some (Operand (InParen paren ∷ fs)))
-  open-run paren t fs v =
-      let f = first-operand t v in
+  pub open-list : (paren : Mark) (ks : List TokenKind) (fs : List Frame) → FirstOf BeginsOperand ks
+      → run lines least p ks (Some (Open paren fs)) ≡ run lines least p ks (Some (Operand (InParen paren ∷ fs)))
+  open-list paren ks fs f =
       rw f.are (ap (λ o. run lines least (p + 1) f.rest o) (opened-operand least (here lines p) paren f.token fs f.fits))
 
-  pub call-run : (call : Mark) (name : List ℕ) (t : ExprTree) (fs : List Frame) → Valid t
-      → run lines least p (spell t) (Some (Called call name fs)) ≡ run lines least p (spell t) (Some (Operand (InCall call name ExprTrees.NoArguments ∷ fs)))
-  call-run call name t fs v =
-      let f = first-operand t v in
+  pub call-list : (call : Mark) (name : List ℕ) (ks : List TokenKind) (fs : List Frame) → FirstOf BeginsOperand ks
+      → run lines least p ks (Some (Called call name fs)) ≡ run lines least p ks (Some (Operand (InCall call name ExprTrees.NoArguments ∷ fs)))
+  call-list call name ks fs f =
       rw f.are (ap (λ o. run lines least (p + 1) f.rest o) (called-operand (here lines p) call name f.token fs f.fits))
 
-  pub size-run : (size : Mark) (t : ExprTree) (fs : List Frame) → Valid t → 14 ≤ level_of t
-      → run lines least p (spell t) (Some (Size size fs)) ≡ run lines least p (spell t) (Some (Operand (InSize size ∷ fs)))
-  size-run size t fs v h = go (spell t) (first-unary t v h)
-    where
-      go : (ks : List TokenKind) → UnaryFirst ks → run lines least p ks (Some (Size size fs)) ≡ run lines least p ks (Some (Operand (InSize size ∷ fs)))
-      go ks (inl f) = rw f.are (ap (λ o. run lines least (p + 1) f.rest o) (sized-operand (here lines p) size f.token fs f.fits))
-      go ks (inr f) =
-          let m = here lines (p + 1) in
-          rw f.are (
-            ap (λ o. run lines least (p + 1 + 1) f.rest o) (size-opened-operand m size (here lines p) f.token fs f.begins)
-            ∙ ap (λ o. run lines least (p + 1 + 1) f.rest o) (sym (opened-operand least m (here lines p) f.token (InSize size ∷ fs) f.begins))
-          )
+  pub size-list : (size : Mark) (ks : List TokenKind) (fs : List Frame) → UnaryFirst ks
+      → run lines least p ks (Some (Size size fs)) ≡ run lines least p ks (Some (Operand (InSize size ∷ fs)))
+  size-list size ks fs (inl f) =
+      rw f.are (ap (λ o. run lines least (p + 1) f.rest o) (sized-operand (here lines p) size f.token fs f.fits))
+  size-list size ks fs (inr f) =
+      let m = here lines (p + 1) in
+      rw f.are (
+        ap (λ o. run lines least (p + 1 + 1) f.rest o) (size-opened-operand m size (here lines p) f.token fs f.begins)
+        ∙ ap (λ o. run lines least (p + 1 + 1) f.rest o) (sym (opened-operand least m (here lines p) f.token (InSize size ∷ fs) f.begins))
+      )
 
-  pub open-spec-run : (paren : Mark) (s : SpecTree) (fs : List Frame) → ValidSpec s → top_hole least fs ≤ 13
-      → run lines least p (spell_spec s) (Some (Open paren fs)) ≡ run lines least p (spell_spec s) (Some (Specifier (InType paren false ∷ fs)))
-  open-spec-run paren s fs v h =
-      let f = first-spec s v in
+  pub open-spec-list : (paren : Mark) (ks : List TokenKind) (fs : List Frame) → FirstOf BeginsSpec ks → top_hole least fs ≤ 13
+      → run lines least p ks (Some (Open paren fs)) ≡ run lines least p ks (Some (Specifier (InType paren false ∷ fs)))
+  open-spec-list paren ks fs f h =
       rw f.are (ap (λ o. run lines least (p + 1) f.rest o) (opened-spec least (here lines p) paren f.token fs f.fits h))
 
-  pub size-spec-run : (size paren : Mark) (s : SpecTree) (fs : List Frame) → ValidSpec s
-      → run lines least p (spell_spec s) (Some (SizeOpen size paren fs)) ≡ run lines least p (spell_spec s) (Some (Specifier (InType size true ∷ fs)))
-  size-spec-run size paren s fs v =
-      let f = first-spec s v in
+  pub size-spec-list : (size paren : Mark) (ks : List TokenKind) (fs : List Frame) → FirstOf BeginsSpec ks
+      → run lines least p ks (Some (SizeOpen size paren fs)) ≡ run lines least p ks (Some (Specifier (InType size true ∷ fs)))
+  size-spec-list size paren ks fs f =
       rw f.are (ap (λ o. run lines least (p + 1) f.rest o) (size-opened-spec (here lines p) size paren f.token fs f.fits))
 
-  pub members-run : (b : Body) (s : SpecTree) (fs : List Frame) → ValidSpec s
-      → run lines least p (spell_spec s) (Some (Members b fs)) ≡ run lines least p (spell_spec s) (Some (Specifier (InStruct b ∷ fs)))
-  members-run b s fs v =
-      let f = first-spec s v in
+  pub members-list : (b : Body) (ks : List TokenKind) (fs : List Frame) → FirstOf BeginsSpec ks
+      → run lines least p ks (Some (Members b fs)) ≡ run lines least p ks (Some (Specifier (InStruct b ∷ fs)))
+  members-list b ks fs f =
       rw f.are (ap (λ o. run lines least (p + 1) f.rest o) (members-spec p f.token b fs f.fits))

@@ -24,3 +24,4 @@ pub mod ProgramNames
 pub mod ProgramDeclarations
 pub mod ProgramThrough
 pub mod OneProgram
+pub mod OneTree

@@ -1,6 +1,6 @@
 -- A machine that reads an expression or a specifier token by token. It holds the nodes that have begun and
 -- aren't whole yet as a stack of frames, the newest first, and what was read behind them.
-use Rattle.std.specs.Prelude.{ℕ, ◌+◌, List, [], ◌∷◌, ◌++◌, Bool, false, true, max, Option, Some, None, cond, ◌&&◌, nat_lt, nat_le}
+use Rattle.std.specs.Prelude.{ℕ, ◌+◌, List, [], ◌∷◌, ◌++◌, Bool, false, true, Option, Some, None, cond, ◌&&◌, nat_lt, nat_le}
 use Rattle.ob_tree.specs.declared.tokens.TokenKind.{TokenKind}
 use Rattle.ob_tree.specs.declared.tokens.TokenKind.TheVariants as kind
 use Rattle.ob_tree.specs.declared.tokens.Keyword.{Keyword}

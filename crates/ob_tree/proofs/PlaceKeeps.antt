@@ -1,10 +1,9 @@
 -- What placing a tree keeps: its level, its validity, its nodes and its tokens.
-use Rattle.std.proofs.Common.{◌≡◌, ℕ, ◌+◌, ◌≤◌, List, Bool, true, false, refl, ap}
-use Rattle.ob_tree.specs.Trees.{ExprTree, ExprTrees, TypeTree, SpecTree, MemberTrees, ObjTree, ObjTrees, DimTrees, InitTree, InitTrees}
+use Rattle.std.proofs.Common.{◌≡◌, ℕ, ◌+◌, ◌≤◌, true, false, refl}
+use Rattle.ob_tree.specs.Trees.{ExprTree, ExprTrees, TypeTree, SpecTree, MemberTrees, ObjTree, ObjTrees, DimTrees}
 use Rattle.ob_tree.specs.Levels.{level_of, left_level, right_level, step_level, mark_of}
 use Rattle.ob_tree.specs.Valid.{Valid, ValidArguments, ValidType, ValidSpec, ValidMembers, ValidMemberNames, ValidMemberName, ValidDims, HasMember, HasDeclarator, IsOf}
-use Rattle.ob_tree.specs.Places.{place, place_arguments, place_type, place_spec, place_members, place_objs, place_obj, place_dims, width, width_name, width_type, width_spec, width_objs, width_obj, signed, step_place, step_mark}
-use Rattle.ob_tree.specs.Paths.{height, height_arguments, height_type, height_spec, height_members, height_objs, height_obj, height_dims}
+use Rattle.ob_tree.specs.Places.{place, place_arguments, place_type, place_spec, place_members, place_objs, place_obj, place_dims, width, width_name, width_type, width_spec, width_objs, width_obj, signed, step_place}
 use Rattle.ob_tree.proofs.Machine.{at_sign}
 
 module _ (lines : ℕ → ℕ) where

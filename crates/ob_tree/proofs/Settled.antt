@@ -1,12 +1,12 @@
 -- What the machine holds when it has read a whole tree, and that a sign behind it closes what it binds tighter
 -- than.
-use Rattle.std.proofs.Common.{◌≡◌, ℕ, suc, ◌+◌, ◌<◌, ◌≤◌, List, [], ◌∷◌, ◌++◌, length, Bool, true, false, Option, Some, None, refl, sym, ◌∙◌, ap, arith}
-use Rattle.std.specs.Prelude.{nat_lt, nat_le, IsTrue}
+use Rattle.std.proofs.Common.{◌≡◌, ℕ, ◌+◌, ◌<◌, ◌≤◌, List, [], ◌∷◌, true, false, refl, ◌∙◌, arith}
+use Rattle.std.specs.Prelude.{nat_lt, nat_le}
 use Rattle.std.proofs.lemmas.Bool.Decides.{nat_tests}
 use Rattle.ob_tree.specs.declared.tokens.Sign.{Sign}
 use Rattle.ob_tree.specs.declared.tokens.Sign.TheVariants as sign
 use Rattle.ob_tree.specs.Trees.{Infix, ExprTree}
-use Rattle.ob_tree.specs.Levels.{binary_level, is_assign, IsInfix, infix_level, left_level, right_level, level_of}
+use Rattle.ob_tree.specs.Levels.{binary_level, IsInfix, infix_level, right_level, level_of}
 use Rattle.ob_tree.specs.Valid.{Valid, IsOf}
 use Rattle.ob_tree.proofs.Machine.{Frame, InParen, InIndex, InCall, InStep, InUnary, InSize, InCast, InJoin, InThen, InElse, InLength, InType, InStruct, State, After, hole, grip, top_hole, close, reduce}
 

@@ -10,8 +10,8 @@ use Rattle.ob_tree.specs.Trees.{Mark, ExprTree, ExprTrees, TypeTree, SpecTree, M
 use Rattle.ob_tree.specs.Spelling.{stars, spell_name, spell_dims}
 use Rattle.ob_tree.specs.Integers.{is_integer}
 use Rattle.ob_tree.specs.Valid.{ValidDims, ValidMemberName, HasMember}
-use Rattle.ob_tree.specs.Places.{here, width_name}
-use Rattle.ob_tree.proofs.Machine.{Head, OfType, OfMember, Body, Line, Frame, InCast, InType, InStruct, State, Operand, After, Specifier, StructWord, Members, Declare, Dims, AfterSpec, add_argument, add_dim, add_obj, add_member, ended, spec_word, close_struct, step, run}
+use Rattle.ob_tree.specs.Places.{width_name}
+use Rattle.ob_tree.proofs.Machine.{OfType, OfMember, Body, Line, Frame, InCast, InType, InStruct, State, Operand, After, Specifier, Members, Declare, Dims, AfterSpec, add_argument, add_dim, add_obj, add_member, ended, spec_word, close_struct, step, run}
 use Rattle.ob_tree.proofs.IntegerWords.{integer-part}
 use Rattle.ob_tree.proofs.SignSteps.{no}
 use Rattle.ob_tree.proofs.Runs.{run-then, run-from, run-step}
@@ -104,7 +104,7 @@ module _ (lines : ℕ → ℕ) (least : ℕ) where
       ∙ words-run (p + 1) f (xs ++ w ∷ []) ws fs again
       ∙ ap (λ x. Some (AfterSpec (SpecTree.Integer f x) fs)) (append_assoc xs (w ∷ []) ws)
 
-  integer-starts : (p : ℕ) (w : Keyword) (ws : List Keyword) (fs : List Frame) → IsTrue (is_integer (w ∷ ws))
+  pub integer-starts : (p : ℕ) (w : Keyword) (ws : List Keyword) (fs : List Frame) → IsTrue (is_integer (w ∷ ws))
       → spec_word p w fs ≡ Some (AfterSpec (SpecTree.Integer p (w ∷ [])) fs)
   integer-starts p word.Char ws fs h = refl
   integer-starts p word.Short ws fs h = refl

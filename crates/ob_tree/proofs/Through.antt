@@ -1,22 +1,21 @@
 -- The machine reads each valid tree from its spelling, and leaves the tree with its places.
-use Rattle.std.proofs.Common.{◌≡◌, ℕ, zero, suc, ◌+◌, ◌≤◌, List, [], ◌∷◌, ◌++◌, length, map, Bool, false, true, Option, Some, refl, sym, ◌∙◌, ap, arith, append_assoc, append-nil, length-append}
+use Rattle.std.proofs.Common.{◌≡◌, ℕ, suc, ◌+◌, ◌≤◌, List, [], ◌∷◌, ◌++◌, length, map, Bool, false, true, Option, Some, refl, sym, ◌∙◌, ap, arith, append_assoc, append-nil, length-append}
 use Rattle.std.specs.Prelude.{IsTrue}
 use Rattle.ob_tree.specs.declared.tokens.TokenKind.{TokenKind}
 use Rattle.ob_tree.specs.declared.tokens.TokenKind.TheVariants as kind
-use Rattle.ob_tree.specs.declared.tokens.Keyword.TheVariants as word
 use Rattle.ob_tree.specs.declared.tokens.Sign.{Sign}
 use Rattle.ob_tree.specs.declared.tokens.Sign.TheVariants as sign
 use Rattle.ob_tree.specs.Trees.{Mark, Infix, ExprTree, ExprTrees, TypeTree, SpecTree, MemberTrees, ObjTree, ObjTrees, DimTrees}
-use Rattle.ob_tree.specs.Spelling.{spell, spell_more_arguments, spell_type, spell_spec, spell_members, spell_objs, spell_more_objs, spell_obj, spell_dims, spell_name, stars, infix_sign}
-use Rattle.ob_tree.specs.Levels.{is_unary, infix_level, left_level, level_of}
+use Rattle.ob_tree.specs.Spelling.{spell, spell_more_arguments, spell_type, spell_spec, spell_members, spell_objs, spell_more_objs, spell_obj, spell_dims, stars, infix_sign}
+use Rattle.ob_tree.specs.Levels.{is_unary, infix_level, left_level}
 use Rattle.ob_tree.specs.Valid.{Valid, ValidArguments, ValidType, ValidSpec, ValidMembers, ValidMemberNames, ValidMemberName, ValidDims, HasDeclarator, IsOf}
 use Rattle.ob_tree.specs.Places.{here, signed, place, place_arguments, place_type, place_spec, place_members, place_objs, place_obj, place_dims, width, width_name, width_type, width_spec, width_objs, width_obj, width_dims}
-use Rattle.ob_tree.proofs.Machine.{Head, OfType, OfMember, Body, Line, Frame, InParen, InIndex, InCall, InStep, InUnary, InSize, InCast, InJoin, InThen, InElse, InLength, InType, InStruct, State, Operand, Open, Size, SizeOpen, Called, Select, After, Specifier, Members, Declare, Dims, AfterSpec, add_argument, add_dim, ended, operand, top_hole, step, run}
+use Rattle.ob_tree.proofs.Machine.{Head, OfType, OfMember, Body, Line, Frame, InParen, InIndex, InCall, InStep, InUnary, InSize, InCast, InJoin, InThen, InElse, InLength, InType, InStruct, State, Operand, Open, SizeOpen, Called, Select, After, Specifier, Members, Declare, Dims, AfterSpec, add_argument, add_dim, ended, operand, top_hole, step, run}
 use Rattle.ob_tree.proofs.PlaceKeeps.{mark-place, valid-place, of-place, valid-name, has-member}
-use Rattle.ob_tree.proofs.Settled.{settled, infix-most}
+use Rattle.ob_tree.proofs.Settled.{settled}
 use Rattle.ob_tree.proofs.SignSteps.{no, step-join, step-question, step-index, step-dot, step-arrow, step-up, step-down, step-paren, step-argument, step-called, step-bracket, step-length, step-colon}
 use Rattle.ob_tree.proofs.Runs.{run-on, run-then, run-from, run-step}
-use Rattle.ob_tree.proofs.FirstTokens.{open-run, call-run, size-run, open-spec-run, size-spec-run, members-run}
+use Rattle.ob_tree.proofs.FirstTokens.{FirstOf, BeginsSpec, first-operand, first-unary, first-spec, open-list, call-list, size-list, open-spec-list, size-spec-list, members-list}
 use Rattle.ob_tree.proofs.SpecSteps.{append_arguments, append_dims, arguments-add, arguments-more, dims-end, dims-more, objs-add, objs-more, members-end, members-more, more_members, more_names, add_name, length-stars, obj_state, type_state, integer-run, type-stars, type-on, line-on, name-run, struct-run, struct-ends, name-comma, name-semi}
 
 pub left-above : (op : Infix) → infix_level op ≤ left_level op
@@ -50,14 +49,14 @@ module _ (lines : ℕ → ℕ) (least : ℕ) where
   through-strings p [] fs v = absurd v
   through-strings p (s ∷ ss) fs v = strings-run (p + 1) (here lines p) (s ∷ []) ss fs
 
-  obj-on : (q : ℕ) (o : ObjTree) (b : Body) (s : SpecTree) (fs : List Frame) → ValidMemberName o
+  pub obj-on : (q : ℕ) (o : ObjTree) (b : Body) (s : SpecTree) (fs : List Frame) → ValidMemberName o
       → run lines least q (spell_obj o) (Some (AfterSpec s (InStruct b ∷ fs)))
       ≡ run lines least q (spell_obj o) (Some (Declare (record { body = b; spec = s; names = ObjTrees.NoDeclarators }) 0 fs))
   obj-on q (ObjTree.Bare n name a ds) b s fs v = line-on lines least q n s b name (spell_dims ds) fs
   obj-on q (ObjTree.Initial n name a ds i) b s fs v = absurd v
 
   -- the same tokens in other groups
-  regroup : (p : ℕ) (xs ys zs : List TokenKind) (s : Option State)
+  pub regroup : (p : ℕ) (xs ys zs : List TokenKind) (s : Option State)
       → run lines least p ((xs ++ ys) ++ zs) s ≡ run lines least p (xs ++ (ys ++ zs)) s
   regroup p xs ys zs s = ap (λ ks. run lines least p ks s) (append_assoc xs ys zs)
 
@@ -73,7 +72,7 @@ module _ (lines : ℕ → ℕ) (least : ℕ) where
         let e' = place lines (p + 1) e in
         let n = here lines p in
         run-then lines least (p + 1) (spell e) (kind.Sign sign.CloseParen) [] (Some (Open n fs)) (settled e' (InParen n ∷ fs)) (Some (After (ExprTree.Paren n e') fs))
-        (open-run lines least (p + 1) n e fs v.0 ∙ through e (p + 1) (InParen n ∷ fs) (v.0, omega arith))
+        (open-list lines least (p + 1) n (spell e) fs (first-operand e v.0) ∙ through e (p + 1) (InParen n ∷ fs) (v.0, omega arith))
         (step-paren least (here lines (p + 1 + width e)) e' fs (valid-place lines (p + 1) e v.0) n)
     through (ExprTree.Index m b i) p fs v =
         let b' = place lines p b in
@@ -94,7 +93,7 @@ module _ (lines : ℕ → ℕ) (least : ℕ) where
         run-from lines least (p + 1 + 1) (p + 2) ((spell e ++ spell_more_arguments es) ++ kind.Sign sign.CloseParen ∷ []) (Some (Called n name fs)) (omega arith)
         ∙ regroup (p + 2) (spell e) (spell_more_arguments es) (kind.Sign sign.CloseParen ∷ []) (Some (Called n name fs))
         ∙ run-on lines least (p + 2) (spell e) (spell_more_arguments es ++ kind.Sign sign.CloseParen ∷ []) (Some (Called n name fs)) (Some (settled e' (f ∷ fs)))
-        (call-run lines least (p + 2) n name e fs v.0.1.0 ∙ through e (p + 2) (f ∷ fs) (v.0.1.0, v.0.1.1))
+        (call-list lines least (p + 2) n name (spell e) fs (first-operand e v.0.1.0) ∙ through e (p + 2) (f ∷ fs) (v.0.1.0, v.0.1.1))
         ∙ through-arguments es (p + 2 + width e) n name ExprTrees.NoArguments e' fs [] v.0.1.2 (valid-place lines (p + 2) e v.0.1.0)
     through (ExprTree.Member m b name) p fs v =
         let b' = place lines p b in
@@ -126,15 +125,15 @@ module _ (lines : ℕ → ℕ) (least : ℕ) where
         run-step lines least p (kind.Sign s) (spell e) (Operand fs) (Some (Operand (InUnary (here lines p) s ∷ fs))) (unary-step (here lines p) s fs v.0.0)
         ∙ through e (p + 1) (InUnary (here lines p) s ∷ fs) (v.0.1, v.0.2)
     through (ExprTree.SizeExpr m e) p fs v =
-        size-run lines least (p + 1) (here lines p) e fs v.0.0 v.0.1 ∙ through e (p + 1) (InSize (here lines p) ∷ fs) v.0
+        size-list lines least (p + 1) (here lines p) (spell e) fs (first-unary e v.0.0 v.0.1) ∙ through e (p + 1) (InSize (here lines p) ∷ fs) v.0
     through (ExprTree.SizeType m t) p fs v =
         run-from lines least (p + 1 + 1) (p + 2) (spell_type t ++ kind.Sign sign.CloseParen ∷ []) (Some (SizeOpen (here lines p) (here lines (p + 1)) fs)) (omega arith)
         ∙ through-type t (p + 2) (here lines p) true fs [] (SizeOpen (here lines p) (here lines (p + 1)) fs) v.0
-        (λ s w. size-spec-run lines least (p + 2) (here lines p) (here lines (p + 1)) s fs w)
+        (λ ks f. size-spec-list lines least (p + 2) (here lines p) (here lines (p + 1)) ks fs f)
     through (ExprTree.Cast m t e) p fs v =
         let n = here lines p in
         let t' = place_type lines (p + 1) t in
-        through-type t (p + 1) n false fs (spell e) (Open n fs) v.0.0 (λ s w. open-spec-run lines least (p + 1) n s fs w v.1)
+        through-type t (p + 1) n false fs (spell e) (Open n fs) v.0.0 (λ ks f. open-spec-list lines least (p + 1) n ks fs f v.1)
         ∙ run-from lines least (p + 1 + width_type t + 1) (p + width_type t + 2) (spell e) (Some (Operand (InCast n t' ∷ fs))) (omega arith)
         ∙ through e (p + width_type t + 2) (InCast n t' ∷ fs) (v.0.1, v.0.2)
     through (ExprTree.Cond m c x y) p fs v =
@@ -160,7 +159,7 @@ module _ (lines : ℕ → ℕ) (least : ℕ) where
         ∙ through r (q + 1) (InJoin n op l' ∷ fs) (v.0.3, v.0.4)
 
     -- the arguments behind a first one
-    through-arguments : (es : ExprTrees) (p : ℕ) (m : Mark) (name : List ℕ) (done : ExprTrees) (e : ExprTree) (fs : List Frame) (ys : List TokenKind) → ValidArguments es → Valid e
+    pub through-arguments : (es : ExprTrees) (p : ℕ) (m : Mark) (name : List ℕ) (done : ExprTrees) (e : ExprTree) (fs : List Frame) (ys : List TokenKind) → ValidArguments es → Valid e
         → run lines least p (spell_more_arguments es ++ kind.Sign sign.CloseParen ∷ ys) (Some (settled e (InCall m name done ∷ fs)))
         ≡ run lines least (p + length (spell_more_arguments es) + 1) ys (Some (After (ExprTree.Call m name (append_arguments done (ExprTrees.Argument e (place_arguments lines (p + 1) es)))) fs))
     through-arguments ExprTrees.NoArguments p m name done e fs ys v w =
@@ -184,8 +183,8 @@ module _ (lines : ℕ → ℕ) (least : ℕ) where
         ∙ ap (λ a. run lines least (p + suc (length (spell x ++ spell_more_arguments es)) + 1) ys (Some (After (ExprTree.Call m name a) fs))) (arguments-more done e (ExprTrees.Argument x' rest))
 
     -- a type name from what is held where its specifier comes, with the parenthesis behind it
-    through-type : (t : TypeTree) (q : ℕ) (m : Mark) (z : Bool) (fs : List Frame) (ys : List TokenKind) (start : State) → ValidType t
-        → ((s : SpecTree) → ValidSpec s → run lines least q (spell_spec s) (Some start) ≡ run lines least q (spell_spec s) (Some (Specifier (InType m z ∷ fs))))
+    pub through-type : (t : TypeTree) (q : ℕ) (m : Mark) (z : Bool) (fs : List Frame) (ys : List TokenKind) (start : State) → ValidType t
+        → ((ks : List TokenKind) → FirstOf BeginsSpec ks → run lines least q ks (Some start) ≡ run lines least q ks (Some (Specifier (InType m z ∷ fs))))
         → run lines least q (spell_type t ++ kind.Sign sign.CloseParen ∷ ys) (Some start) ≡ run lines least (q + width_type t + 1) ys (Some (type_state m z (place_type lines q t) fs))
     through-type (TypeTree.TypeName s n ds) q m z fs ys start v begins =
         let s' = place_spec lines q s in
@@ -196,7 +195,7 @@ module _ (lines : ℕ → ℕ) (least : ℕ) where
         omega (arith, length-append (spell_spec s) (stars n ++ spell_dims ds), length-append (stars n) (spell_dims ds), length-stars n) in
         regroup q (spell_spec s) (stars n ++ spell_dims ds) (kind.Sign sign.CloseParen ∷ ys) (Some start)
         ∙ ap (λ ks. run lines least q (spell_spec s ++ ks) (Some start)) (append_assoc (stars n) (spell_dims ds) (kind.Sign sign.CloseParen ∷ ys))
-        ∙ run-on lines least q (spell_spec s) (stars n ++ zs) (Some start) (Some (AfterSpec s' (InType m z ∷ fs))) (begins s v.0 ∙ through-spec s q (InType m z ∷ fs) v.0)
+        ∙ run-on lines least q (spell_spec s) (stars n ++ zs) (Some start) (Some (AfterSpec s' (InType m z ∷ fs))) (begins (spell_spec s) (first-spec s v.0) ∙ through-spec s q (InType m z ∷ fs) v.0)
         ∙ type-on lines least a n s' m z ds ys fs v.1
         ∙ run-on lines least a (stars n) zs (Some (Dims (OfType m z s' 0) DimTrees.NoDims fs)) (Some (Dims (OfType m z s' n) DimTrees.NoDims fs))
         (type-stars lines least a m z s' 0 n fs ∙ (let e : 0 + n ≡ n = omega arith in ap (λ i. Some (Dims (OfType m z s' i) DimTrees.NoDims fs)) e))
@@ -220,7 +219,7 @@ module _ (lines : ℕ → ℕ) (least : ℕ) where
         ∙ run-then lines least q (spell_members ms) (kind.Sign sign.CloseBrace) [] (Some (Members b fs)) (Members (more_members b ms') fs) (Some (AfterSpec (SpecTree.Struct p tag ms') fs))
         (through-members ms q b fs v.2) (struct-ends p tag ms' fs (has-member lines q ms v.1))
 
-    through-members : (ms : MemberTrees) (p : ℕ) (b : Body) (fs : List Frame) → ValidMembers ms
+    pub through-members : (ms : MemberTrees) (p : ℕ) (b : Body) (fs : List Frame) → ValidMembers ms
         → run lines least p (spell_members ms) (Some (Members b fs)) ≡ Some (Members (more_members b (place_members lines p ms)) fs)
     through-members MemberTrees.NoMembers p b fs v =
         ap (λ ms. Some (Members (record { first = b.first; tag = b.tag; members = ms }) fs)) (sym (members-end b.members))
@@ -231,13 +230,13 @@ module _ (lines : ℕ → ℕ) (least : ℕ) where
         let q = a + width_objs names + 1 in
         let l : Line = record { body = b; spec = s'; names = ObjTrees.NoDeclarators } in
         run-on lines least p (spell_spec s) (spell_objs names ++ kind.Sign sign.Semi ∷ spell_members ms) (Some (Members b fs)) (Some (AfterSpec s' (InStruct b ∷ fs)))
-        (members-run lines least p b s fs v.0 ∙ through-spec s p (InStruct b ∷ fs) v.0)
+        (members-list lines least p b (spell_spec s) fs (first-spec s v.0) ∙ through-spec s p (InStruct b ∷ fs) v.0)
         ∙ through-names names a s' b fs (spell_members ms) v.1 v.2
         ∙ through-members ms q (ended (more_names l names')) fs v.3
         ∙ ap (λ x. Some (Members (record { first = b.first; tag = b.tag; members = x }) fs)) (members-more b.members s' names' (place_members lines q ms))
 
     -- the names of a line of members, and its semicolon
-    through-names : (names : ObjTrees) (q : ℕ) (s : SpecTree) (b : Body) (fs : List Frame) (ys : List TokenKind) → HasDeclarator names → ValidMemberNames names
+    pub through-names : (names : ObjTrees) (q : ℕ) (s : SpecTree) (b : Body) (fs : List Frame) (ys : List TokenKind) → HasDeclarator names → ValidMemberNames names
         → run lines least q (spell_objs names ++ kind.Sign sign.Semi ∷ ys) (Some (AfterSpec s (InStruct b ∷ fs)))
         ≡ run lines least (q + width_objs names + 1) ys (Some (Members (ended (more_names (record { body = b; spec = s; names = ObjTrees.NoDeclarators }) (place_objs lines q names))) fs))
     through-names ObjTrees.NoDeclarators q s b fs ys h v = absurd h
@@ -252,7 +251,7 @@ module _ (lines : ℕ → ℕ) (least : ℕ) where
         ∙ through-more-names os (q + width_obj o) l o' fs ys v.1 (valid-name lines q o v.0)
         ∙ run-from lines least _ _ ys _ n
 
-    through-more-names : (os : ObjTrees) (p : ℕ) (l : Line) (o : ObjTree) (fs : List Frame) (ys : List TokenKind) → ValidMemberNames os → ValidMemberName o
+    pub through-more-names : (os : ObjTrees) (p : ℕ) (l : Line) (o : ObjTree) (fs : List Frame) (ys : List TokenKind) → ValidMemberNames os → ValidMemberName o
         → run lines least p (spell_more_objs os ++ kind.Sign sign.Semi ∷ ys) (Some (obj_state l o fs))
         ≡ run lines least (p + length (spell_more_objs os) + 1) ys (Some (Members (ended (more_names l (ObjTrees.Declarator o (place_objs lines (p + 1) os)))) fs))
     through-more-names ObjTrees.NoDeclarators p l o fs ys v w =
@@ -273,13 +272,13 @@ module _ (lines : ℕ → ℕ) (least : ℕ) where
         ∙ run-from lines least _ _ ys _ n
         ∙ ap (λ y. run lines least (p + suc (length (spell_obj x ++ spell_more_objs os)) + 1) ys (Some (Members (ended (record { body = l.body; spec = l.spec; names = y })) fs))) (objs-more l.names o (ObjTrees.Declarator x' rest))
 
-    through-obj : (o : ObjTree) (q : ℕ) (l : Line) (fs : List Frame) → ValidMemberName o
+    pub through-obj : (o : ObjTree) (q : ℕ) (l : Line) (fs : List Frame) → ValidMemberName o
         → run lines least q (spell_obj o) (Some (Declare l 0 fs)) ≡ Some (obj_state l (place_obj lines q o) fs)
     through-obj (ObjTree.Bare n name a ds) q l fs v =
         name-run lines least q l n name (spell_dims ds) fs ∙ through-dims ds (q + n + 1) (OfMember l n name (q + n)) DimTrees.NoDims fs v.1
     through-obj (ObjTree.Initial n name a ds i) q l fs v = absurd v
 
-    through-dims : (ds : DimTrees) (p : ℕ) (h : Head) (done : DimTrees) (fs : List Frame) → ValidDims ds
+    pub through-dims : (ds : DimTrees) (p : ℕ) (h : Head) (done : DimTrees) (fs : List Frame) → ValidDims ds
         → run lines least p (spell_dims ds) (Some (Dims h done fs)) ≡ Some (Dims h (append_dims done (place_dims lines p ds)) fs)
     through-dims DimTrees.NoDims p h done fs v = ap (λ ds. Some (Dims h ds fs)) (sym (dims-end done))
     through-dims (DimTrees.Unsized ds) p h done fs v = absurd v

@@ -1,0 +1,9 @@
+pub mod Begun
+pub mod Heights
+pub mod Within
+pub mod Reach
+pub mod Shapes
+pub mod Adding
+pub mod Kept
+pub mod Sound
+pub mod SoundAfter
