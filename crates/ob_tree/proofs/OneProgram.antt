@@ -1,6 +1,6 @@
 -- The machine reads each valid program from its spelling, so programs that stand on one token list and spell it are
 -- the same.
-use Rattle.std.proofs.Common.{◌≡◌, ℕ, ◌+◌, List, [], ◌∷◌, ◌++◌, length, Bool, true, false, Option, Some, None, refl, sym, ◌∙◌, ap, ap₂, arith, append_assoc, append-nil, length-append}
+use Rattle.std.proofs.Common.{◌≡◌, ℕ, ◌+◌, List, [], ◌∷◌, ◌++◌, length, Bool, true, Some, None, refl, sym, ◌∙◌, ap, ap₂, arith, append_assoc, append-nil, length-append}
 use Rattle.std.specs.Prelude.{cond, ◌&&◌}
 use Rattle.std.specs.List.{AllByRecursion}
 use Rattle.ob_tree.specs.declared.tokens.TokenKind.{TokenKind}
@@ -13,11 +13,10 @@ use Rattle.ob_tree.specs.ProgramSpelling.{spell_static, spell_params, spell_func
 use Rattle.ob_tree.specs.ProgramValid.{ValidItem, ValidProgram, AreNamed, HasTag}
 use Rattle.ob_tree.specs.Places.{here, place_spec, width_spec}
 use Rattle.ob_tree.specs.ProgramPlaces.{width_static, width_param, width_params, width_item, place_list, place_params, place_files, place_block, place_item, place_program, PlacedProgram}
-use Rattle.ob_tree.proofs.Machine as expr
 use Rattle.ob_tree.proofs.SpecSteps.{length-stars}
-use Rattle.ob_tree.proofs.ProgramStates.{Definition, InBody, InBlock, Outer, Heading, Declaration, ForDeclaration, State, Items, Specifying, Declare, Closed, Begin, Done}
-use Rattle.ob_tree.proofs.ProgramMachine.{is_tagged, are_all_named, are_named, begin_declaration, begin_body, step, run, finish}
-use Rattle.ob_tree.proofs.ProgramRuns.{Reads, nothing, token, ◌before◌, counted, respelled, arrives, shifted, restart}
+use Rattle.ob_tree.proofs.ProgramStates.{Definition, InBody, InBlock, Outer, Heading, Declaration, State, Items, Declare, Closed, Begin, Done}
+use Rattle.ob_tree.proofs.ProgramMachine.{are_all_named, are_named, begin_declaration, begin_body, step, run, finish}
+use Rattle.ob_tree.proofs.ProgramRuns.{Reads, nothing, token, ◌before◌, counted, respelled, shifted, restart}
 use Rattle.ob_tree.proofs.ProgramNames.{named, MayDeclare, read-function, StartsName, stars-first, name-starts, tagged, read-names}
 use Rattle.ob_tree.proofs.ProgramDeclarations.{BeginsDeclaration, read-head}
 use Rattle.ob_tree.proofs.ProgramThrough.{NotElse, declares-not-else, stmt-ends, read-block}
@@ -81,13 +80,13 @@ module _ (lines : ℕ → ℕ) where
       record {
         state = Done whole gs;
         reads = counted (
-          respelled (append_assoc (spell_static fixed) (spell_spec s) (spell_function n name ps ++ spell_stmt (StmtTree.Block f b body))) (
+            respelled (append_assoc (spell_static fixed) (spell_spec s) (spell_function n name ps ++ spell_stmt (StmtTree.Block f b body))) (
             read-head lines o fixed s st p v.0 same
             before restart (Declare d 0) StartsName (stars-first n name _) (name-starts h s' (here lines q)) (shifted l (read-function lines d n name ps q v.2 tt))
             before token (kind.Sign sign.OpenBrace) (c + 1) start open_body refl
             before read-block lines body c (lines c) BlockTrees.NoItems gs start (c + 1) v.5 (λ k x. refl)
-          )
-        );
+            )
+            );
         behind = record { next = λ m k x. stmt-ends m k whole gs x; whole = refl };
       }
 
@@ -106,11 +105,11 @@ module _ (lines : ℕ → ℕ) where
       record {
         state = Items (items ++ i' ∷ []);
         reads = counted (
-          respelled (append_assoc (spell_static fixed) (spell_spec s) (listed spell_file xs ++ kind.Sign sign.Semi ∷ [])) (
+            respelled (append_assoc (spell_static fixed) (spell_spec s) (listed spell_file xs ++ kind.Sign sign.Semi ∷ [])) (
             read-head lines o fixed s st p v.0 same
             before read-names lines h s r xs q v.1 (may-declare items xs)
-          )
-        );
+            )
+            );
         behind = record { next = λ m k x. refl; whole = finish-items items i' };
       }
 

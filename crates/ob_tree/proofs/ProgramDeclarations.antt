@@ -1,13 +1,12 @@
 -- The machine reads declarations in blocks, and what stands before the declarators of any declaration.
-use Rattle.std.proofs.Common.{◌≡◌, ℕ, ◌+◌, List, [], ◌∷◌, ◌++◌, length, Bool, true, false, Option, Some, None, refl, sym, ◌∙◌, ap, ap₂, subst, arith, append_assoc, length-append}
+use Rattle.std.proofs.Common.{◌≡◌, ℕ, ◌+◌, List, [], ◌∷◌, ◌++◌, length, Bool, true, false, refl, sym, ◌∙◌, ap, arith, append_assoc}
 use Rattle.std.specs.Prelude.{cond}
 use Rattle.std.specs.List.{AllByRecursion}
 use Rattle.ob_tree.specs.declared.tokens.TokenKind.{TokenKind}
 use Rattle.ob_tree.specs.declared.tokens.TokenKind.TheVariants as kind
-use Rattle.ob_tree.specs.declared.tokens.Keyword.{Keyword}
 use Rattle.ob_tree.specs.declared.tokens.Keyword.TheVariants as word
 use Rattle.ob_tree.specs.declared.tokens.Sign.TheVariants as sign
-use Rattle.ob_tree.specs.Trees.{Mark, SpecTree, ObjTree, ObjTrees}
+use Rattle.ob_tree.specs.Trees.{Mark, SpecTree, ObjTrees}
 use Rattle.ob_tree.specs.Programs.{LocalTree, StartTree, BlockTrees, FileTree}
 use Rattle.ob_tree.specs.Spelling.{spell_spec, spell_obj, spell_objs, spell_more_objs, listed, more_listed}
 use Rattle.ob_tree.specs.ProgramSpelling.{spell_static, spell_local, spell_file}
@@ -16,7 +15,7 @@ use Rattle.ob_tree.specs.ProgramValid.{ValidNames, ValidFile, ValidFiles, ValidL
 use Rattle.ob_tree.specs.Places.{here, place_spec, place_objs, place_obj, width_spec, width_obj}
 use Rattle.ob_tree.specs.ProgramPlaces.{width_static, width_local, place_local, place_files}
 use Rattle.ob_tree.proofs.Machine as expr
-use Rattle.ob_tree.proofs.FirstTokens.{FirstOf, first-more, first-spec, BeginsSpec}
+use Rattle.ob_tree.proofs.FirstTokens.{first-spec, BeginsSpec}
 use Rattle.ob_tree.proofs.ProgramStates.{Frame, InBlock, Owner, Inner, Start, Heading, ForDeclaration, ForStart, ForTest, State, Specifying, Optional, Begin, ForOpen}
 use Rattle.ob_tree.proofs.ProgramMachine.{add_local, objects, heading, optional, begin_declaration, begins_declaration, end_declaration, step}
 use Rattle.ob_tree.proofs.ProgramRuns.{Reads, token, ◌before◌, counted, respelled, arrives, shifted, restart, read-spec}
@@ -47,10 +46,10 @@ read-head lines o false spec s p v same =
     let h : Heading = record { owner = o; first = p; line = lines p; fixed = false } in
     let e : p ≡ p + 0 = omega arith in
     shifted (let g : p + width_spec spec ≡ p + 0 + width_spec spec = omega arith in g) (
-      arrives (ap (λ z. Specifying (ForDeclaration h) (expr.AfterSpec (place_spec lines z spec) [])) e) (
-        restart (Specifying (ForDeclaration h) (expr.Specifier [])) BeginsSpec (first-spec spec v) (λ k b. same k (spec-declares k b) ∙ begin-spec (here lines p) k o b)
-        (read-spec lines (ForDeclaration h) spec p v)
-      )
+    arrives (ap (λ z. Specifying (ForDeclaration h) (expr.AfterSpec (place_spec lines z spec) [])) e) (
+    restart (Specifying (ForDeclaration h) (expr.Specifier [])) BeginsSpec (first-spec spec v) (λ k b. same k (spec-declares k b) ∙ begin-spec (here lines p) k o b)
+    (read-spec lines (ForDeclaration h) spec p v)
+    )
     )
 read-head lines o true spec s p v same =
     let h : Heading = record { owner = o; first = p; line = lines p; fixed = true } in
@@ -97,10 +96,10 @@ read-objs : (lines : ℕ → ℕ) (h : Heading) (s : SpecTree) (r : ℕ) (os : O
     (end_declaration (record { heading = h; spec = place_spec lines r s; names = files (place_objs lines p os) }))
 read-objs lines h s r os p v =
     counted (
-      respelled (ap (λ ks. ks ++ kind.Sign sign.Semi ∷ []) (all-files os)) (
-        arrives (ap (λ ns. end_declaration (record { heading = h; spec = place_spec lines r s; names = ns })) (place-files lines p os))
-        (read-names lines h s r (files os) p (valid-files s os v) (may-declare h.owner os))
-      )
+    respelled (ap (λ ks. ks ++ kind.Sign sign.Semi ∷ []) (all-files os)) (
+    arrives (ap (λ ns. end_declaration (record { heading = h; spec = place_spec lines r s; names = ns })) (place-files lines p os))
+    (read-names lines h s r (files os) p (valid-files s os v) (may-declare h.owner os))
+    )
     )
 
 -- a declaration in a block
@@ -113,15 +112,15 @@ read-local lines f n items fs l s p v same =
     let a = p + width_static l.fixed in
     let q = a + width_spec l.spec in
     counted (
-      respelled (append_assoc (spell_static l.fixed) (spell_spec l.spec) (spell_objs l.names ++ kind.Sign sign.Semi ∷ [])) (
-        arrives (
-          ap (λ ns. Begin (InBlock f n (add_local items (record { first = p; line = lines p; fixed = l.fixed; spec = place_spec lines a l.spec; names = ns })) ∷ fs))
-          (objects-files (place_objs lines q l.names))
-        ) (
-          read-head lines o l.fixed l.spec s p v.0 same
-          before read-objs lines h l.spec a l.names q v.1
-        )
-      )
+    respelled (append_assoc (spell_static l.fixed) (spell_spec l.spec) (spell_objs l.names ++ kind.Sign sign.Semi ∷ [])) (
+    arrives (
+    ap (λ ns. Begin (InBlock f n (add_local items (record { first = p; line = lines p; fixed = l.fixed; spec = place_spec lines a l.spec; names = ns })) ∷ fs))
+    (objects-files (place_objs lines q l.names))
+    ) (
+    read-head lines o l.fixed l.spec s p v.0 same
+    before read-objs lines h l.spec a l.names q v.1
+    )
+    )
     )
 
 for-starts : (m : Mark) (k : TokenKind) (f n : ℕ) (fs : List Frame) → BeginsSpec k
@@ -138,14 +137,14 @@ for-local lines f n fs spec names p v w =
     let h : Heading = record { owner = Start f n fs; first = p; line = lines p; fixed = false } in
     let q = p + width_spec spec in
     counted (
-      arrives (
-        ap (λ ns. Optional (ForTest f n (StartTree.Local (record { first = p; line = lines p; fixed = false; spec = place_spec lines p spec; names = ns })) fs))
-        (objects-files (place_objs lines q names))
-      ) (
-        restart (Specifying (ForDeclaration h) (expr.Specifier [])) BeginsSpec (first-spec spec v) (λ k b. for-starts (here lines p) k f n fs b)
-        (read-spec lines (ForDeclaration h) spec p v)
-        before read-objs lines h spec p names q w
-      )
+    arrives (
+    ap (λ ns. Optional (ForTest f n (StartTree.Local (record { first = p; line = lines p; fixed = false; spec = place_spec lines p spec; names = ns })) fs))
+    (objects-files (place_objs lines q names))
+    ) (
+    restart (Specifying (ForDeclaration h) (expr.Specifier [])) BeginsSpec (first-spec spec v) (λ k b. for-starts (here lines p) k f n fs b)
+    (read-spec lines (ForDeclaration h) spec p v)
+    before read-objs lines h spec p names q w
+    )
     )
 
 -- a declaration that stands first in a `for`
@@ -156,6 +155,6 @@ read-for-local lines f n fs l p e v =
     let z : p ≡ p + 0 = omega arith in
     let placed = λ (b : Bool) (a : ℕ). Optional (ForTest f n (StartTree.Local (record { first = p; line = lines p; fixed = b; spec = place_spec lines a l.spec; names = place_objs lines (a + width_spec l.spec) l.names })) fs) in
     counted (
-      respelled (ap (λ b. spell_static b ++ (spell_spec l.spec ++ (spell_objs l.names ++ kind.Sign sign.Semi ∷ []))) (sym e))
-      (arrives (ap (λ a. placed false a) z ∙ ap (λ b. placed b (p + width_static b)) (sym e)) r)
+    respelled (ap (λ b. spell_static b ++ (spell_spec l.spec ++ (spell_objs l.names ++ kind.Sign sign.Semi ∷ []))) (sym e))
+    (arrives (ap (λ a. placed false a) z ∙ ap (λ b. placed b (p + width_static b)) (sym e)) r)
     )

@@ -123,7 +123,7 @@ empty_program v = v
 -- the name of `int f(void){return NULL;}` stands at 1, its body at 5, `return` at 6 and `NULL` at 7
 place_function : place_program (λ p. 10 + p) 0 (function ParamsTree.Void ∷ []) ≡
     ItemTree.Function 0 10 false int 0 f 1 ParamsTree.Void (
-      StmtTree.Block 5 15 (BlockTrees.Statement (StmtTree.Return 6 16 (Some (ExprTree.Null (record { first = 7; at = 7; line = 17 })))) BlockTrees.NoItems)
+    StmtTree.Block 5 15 (BlockTrees.Statement (StmtTree.Return 6 16 (Some (ExprTree.Null (record { first = 7; at = 7; line = 17 })))) BlockTrees.NoItems)
     ) ∷ []
 place_function = refl
 

@@ -1,13 +1,13 @@
 -- The machine reads what may be left out, array brackets and initialisers.
-use Rattle.std.proofs.Common.{◌≡◌, ℕ, ◌+◌, ◌≤◌, List, [], ◌∷◌, ◌++◌, length, Bool, true, false, Option, Some, None, refl, sym, ◌∙◌, ap, arith, append_assoc}
+use Rattle.std.proofs.Common.{◌≡◌, ℕ, ◌+◌, List, [], ◌∷◌, ◌++◌, length, Bool, true, false, Option, Some, None, refl, sym, ◌∙◌, ap, arith, append_assoc}
 use Rattle.std.specs.Prelude.{cond}
 use Rattle.ob_tree.specs.declared.tokens.TokenKind.{TokenKind}
 use Rattle.ob_tree.specs.declared.tokens.TokenKind.TheVariants as kind
 use Rattle.ob_tree.specs.declared.tokens.Sign.TheVariants as sign
 use Rattle.ob_tree.specs.Trees.{Mark, ExprTree, DimTrees, InitTree, InitTrees}
-use Rattle.ob_tree.specs.Spelling.{spell, spell_dims, spell_comma, spell_init, spell_more_inits}
+use Rattle.ob_tree.specs.Spelling.{spell_dims, spell_comma, spell_init, spell_more_inits}
 use Rattle.ob_tree.specs.ProgramSpelling.{spell_option}
-use Rattle.ob_tree.specs.Valid.{Valid, ValidDims, ValidOpenDims, ValidInit, ValidInits, IsOf}
+use Rattle.ob_tree.specs.Valid.{ValidDims, ValidOpenDims, ValidInit, ValidInits, IsOf}
 use Rattle.ob_tree.specs.ProgramValid.{ValidOption}
 use Rattle.ob_tree.specs.Places.{here, place, place_dims, place_init, place_inits, width, width_dims, width_init}
 use Rattle.ob_tree.specs.ProgramPlaces.{width_option, place_option}
@@ -16,7 +16,7 @@ use Rattle.ob_tree.proofs.PlaceKeeps.{valid-place}
 use Rattle.ob_tree.proofs.Settled.{settled}
 use Rattle.ob_tree.proofs.SpecSteps.{append_dims, dims-end, dims-more}
 use Rattle.ob_tree.proofs.ProgramStates.{Head, OfName, OfParam, Target, Braces, Use, Statement, IfTest, WhileTest, DoTest, ForStart, ForTest, ForNext, Return, Length, Item, State, Dims, Optional, Reading, Init, AfterInit}
-use Rattle.ob_tree.proofs.ProgramMachine.{at_semi, at_close, at_bracket, at_brace, add_init, has_items, use_level, first_length, last_comma, used, optional_to, read, initialised, step}
+use Rattle.ob_tree.proofs.ProgramMachine.{at_semi, at_close, at_bracket, at_brace, add_init, has_items, use_level, first_length, last_comma, used, optional_to, initialised, step}
 use Rattle.ob_tree.proofs.ProgramRuns.{Reads, nothing, token, ◌before◌, counted, respelled, arrives, restart, read-expr, Ends, expr-ends, StartsExpr, first-expr}
 
 -- Where an expression may be left out, the token that it begins with is none that may stand in its place.
@@ -103,13 +103,13 @@ read-dims lines h (DimTrees.Sized e ds) done p v =
     let e' = place lines (p + 1) e in
     let u = Length h done in
     counted (
-      arrives (ap (λ x. Dims h x) (dims-more done e' (place_dims lines (p + width e + 2) ds))) (
-        token (kind.Sign sign.OpenBracket) (p + 1) (Optional u) (open-bracket (here lines p) h done) refl
-        before read-option lines u (Some e) (p + 1) (v.0, v.1)
-        before token (kind.Sign sign.CloseBracket) (p + width e + 2) (Dims h (expr.add_dim done e'))
-        (option-ends lines u (Some e) (p + 1) (here lines (p + 1 + width e)) (kind.Sign sign.CloseBracket) _ (v.0, v.1) tt refl) (omega arith)
-        before read-dims lines h ds (expr.add_dim done e') (p + width e + 2) v.2
-      )
+    arrives (ap (λ x. Dims h x) (dims-more done e' (place_dims lines (p + width e + 2) ds))) (
+    token (kind.Sign sign.OpenBracket) (p + 1) (Optional u) (open-bracket (here lines p) h done) refl
+    before read-option lines u (Some e) (p + 1) (v.0, v.1)
+    before token (kind.Sign sign.CloseBracket) (p + width e + 2) (Dims h (expr.add_dim done e'))
+    (option-ends lines u (Some e) (p + 1) (here lines (p + 1 + width e)) (kind.Sign sign.CloseBracket) _ (v.0, v.1) tt refl) (omega arith)
+    before read-dims lines h ds (expr.add_dim done e') (p + width e + 2) v.2
+    )
     )
 
 pub read-open-dims : (lines : ℕ → ℕ) (h : Head) (ds : DimTrees) (p : ℕ) → ValidOpenDims ds
@@ -118,9 +118,9 @@ read-open-dims lines h DimTrees.NoDims p v = read-dims lines h DimTrees.NoDims D
 read-open-dims lines h (DimTrees.Sized e ds) p v = read-dims lines h (DimTrees.Sized e ds) DimTrees.NoDims p v
 read-open-dims lines h (DimTrees.Unsized ds) p v =
     counted (
-      token (kind.Sign sign.OpenBracket) (p + 1) (Optional (Length h DimTrees.NoDims)) (open-bracket (here lines p) h DimTrees.NoDims) refl
-      before token (kind.Sign sign.CloseBracket) (p + 2) (Dims h (DimTrees.Unsized DimTrees.NoDims)) refl (omega arith)
-      before read-dims lines h ds (DimTrees.Unsized DimTrees.NoDims) (p + 2) v
+    token (kind.Sign sign.OpenBracket) (p + 1) (Optional (Length h DimTrees.NoDims)) (open-bracket (here lines p) h DimTrees.NoDims) refl
+    before token (kind.Sign sign.CloseBracket) (p + 2) (Dims h (DimTrees.Unsized DimTrees.NoDims)) refl (omega arith)
+    before read-dims lines h ds (DimTrees.Unsized DimTrees.NoDims) (p + 2) v
     )
 
 -- Initialisers.
@@ -170,11 +170,11 @@ module _ (lines : ℕ → ℕ) (t : Target) where
     read-init (InitTree.Braces f (InitTrees.Item i xs) comma) is p v =
         let b : Braces = record { first = p; items = InitTrees.NoItems } in
         counted (
-          token (kind.Sign sign.OpenBrace) (p + 1) (Init t (b ∷ is)) refl refl
-          before respelled (sym (append_assoc (spell_init i) (spell_more_inits xs) (spell_comma comma ++ kind.Sign sign.CloseBrace ∷ []))) (
-            read-init i (b ∷ is) (p + 1) v.1.0
-            before read-more-inits xs comma is b (place_init lines (p + 1) i) (p + 1 + width_init i) v.1.1 (λ m k h. init-ends lines t (b ∷ is) i (p + 1) m k v.1.0 h)
-          )
+        token (kind.Sign sign.OpenBrace) (p + 1) (Init t (b ∷ is)) refl refl
+        before respelled (sym (append_assoc (spell_init i) (spell_more_inits xs) (spell_comma comma ++ kind.Sign sign.CloseBrace ∷ []))) (
+        read-init i (b ∷ is) (p + 1) v.1.0
+        before read-more-inits xs comma is b (place_init lines (p + 1) i) (p + 1 + width_init i) v.1.1 (λ m k h. init-ends lines t (b ∷ is) i (p + 1) m k v.1.0 h)
+        )
         )
 
     -- the initialisers behind one, and what closes the list
@@ -185,26 +185,26 @@ module _ (lines : ℕ → ℕ) (t : Target) where
         (AfterInit t is (InitTree.Braces b.first (append_inits b.items (InitTrees.Item i (place_inits lines (p + 1) xs))) comma))
     read-more-inits InitTrees.NoItems false is b i p v h =
         arrives (ap (λ x. AfterInit t is (InitTree.Braces b.first x false)) (inits-add b.items i)) (
-          token (kind.Sign sign.CloseBrace) (p + 1) (AfterInit t is (InitTree.Braces b.first (add_init b.items i) false)) (h (here lines p) (kind.Sign sign.CloseBrace) tt) refl
+        token (kind.Sign sign.CloseBrace) (p + 1) (AfterInit t is (InitTree.Braces b.first (add_init b.items i) false)) (h (here lines p) (kind.Sign sign.CloseBrace) tt) refl
         )
     read-more-inits InitTrees.NoItems true is b i p v h =
         let c : Braces = record { first = b.first; items = add_init b.items i } in
         counted (
-          arrives (ap (λ x. AfterInit t is (InitTree.Braces b.first x true)) (inits-add b.items i)) (
-            token (kind.Sign sign.Comma) (p + 1) (Init t (c ∷ is)) (h (here lines p) (kind.Sign sign.Comma) (omega arith)) refl
-            before token (kind.Sign sign.CloseBrace) (p + 2) (AfterInit t is (InitTree.Braces b.first (add_init b.items i) true)) (comma-close (here lines (p + 1)) t is b.first b.items i) (omega arith)
-          )
+        arrives (ap (λ x. AfterInit t is (InitTree.Braces b.first x true)) (inits-add b.items i)) (
+        token (kind.Sign sign.Comma) (p + 1) (Init t (c ∷ is)) (h (here lines p) (kind.Sign sign.Comma) (omega arith)) refl
+        before token (kind.Sign sign.CloseBrace) (p + 2) (AfterInit t is (InitTree.Braces b.first (add_init b.items i) true)) (comma-close (here lines (p + 1)) t is b.first b.items i) (omega arith)
+        )
         )
     read-more-inits (InitTrees.Item x xs) comma is b i p v h =
         let c : Braces = record { first = b.first; items = add_init b.items i } in
         let x' = place_init lines (p + 1) x in
         let rest = place_inits lines (p + 1 + width_init x + 1) xs in
         counted (
-          arrives (ap (λ y. AfterInit t is (InitTree.Braces b.first y comma)) (inits-more b.items i (InitTrees.Item x' rest))) (
-            token (kind.Sign sign.Comma) (p + 1) (Init t (c ∷ is)) (h (here lines p) (kind.Sign sign.Comma) (omega arith)) refl
-            before respelled (sym (append_assoc (spell_init x) (spell_more_inits xs) (spell_comma comma ++ kind.Sign sign.CloseBrace ∷ []))) (
-              read-init x (c ∷ is) (p + 1) v.0
-              before read-more-inits xs comma is c x' (p + 1 + width_init x) v.1 (λ m k g. init-ends lines t (c ∷ is) x (p + 1) m k v.0 g)
-            )
-          )
+        arrives (ap (λ y. AfterInit t is (InitTree.Braces b.first y comma)) (inits-more b.items i (InitTrees.Item x' rest))) (
+        token (kind.Sign sign.Comma) (p + 1) (Init t (c ∷ is)) (h (here lines p) (kind.Sign sign.Comma) (omega arith)) refl
+        before respelled (sym (append_assoc (spell_init x) (spell_more_inits xs) (spell_comma comma ++ kind.Sign sign.CloseBrace ∷ []))) (
+        read-init x (c ∷ is) (p + 1) v.0
+        before read-more-inits xs comma is c x' (p + 1 + width_init x) v.1 (λ m k g. init-ends lines t (c ∷ is) x (p + 1) m k v.0 g)
+        )
+        )
         )

@@ -1,6 +1,6 @@
 -- A machine that reads a program token by token. A specifier or an expression in it is read by the machine for
 -- these, for as long as that one goes on.
-use Rattle.std.specs.Prelude.{ℕ, zero, suc, ◌+◌, List, [], ◌∷◌, ◌++◌, Bool, false, true, Option, Some, None, cond, ◌&&◌}
+use Rattle.std.specs.Prelude.{ℕ, ◌+◌, List, [], ◌∷◌, ◌++◌, Bool, false, true, Option, Some, None, cond, ◌&&◌}
 use Rattle.ob_tree.specs.declared.tokens.TokenKind.{TokenKind}
 use Rattle.ob_tree.specs.declared.tokens.TokenKind.TheVariants as kind
 use Rattle.ob_tree.specs.declared.tokens.Keyword.{Keyword}
@@ -209,21 +209,21 @@ begin_declaration m k o = specify m k (ForDeclaration (heading o m false)) (expr
 abbrev pub begin_body : Mark → Owner → Declarator → ParamsTree → Option State
 begin_body m (Outer items) x ps =
     Some (
-      Begin (
-        InBlock m.first m.line BlockTrees.NoItems
-        ∷ (InBody (record {
-          items = items;
-          first = x.declaration.heading.first;
-          line = x.declaration.heading.line;
-          fixed = x.declaration.heading.fixed;
-          spec = x.declaration.spec;
-          stars = x.stars;
-          name = x.name;
-          at = x.at;
-          params = ps;
-        })
-        ∷ [])
-      )
+    Begin (
+    InBlock m.first m.line BlockTrees.NoItems
+    ∷ (InBody (record {
+      items = items;
+      first = x.declaration.heading.first;
+      line = x.declaration.heading.line;
+      fixed = x.declaration.heading.fixed;
+      spec = x.declaration.spec;
+      stars = x.stars;
+      name = x.name;
+      at = x.at;
+      params = ps;
+    })
+    ∷ [])
+    )
     )
 begin_body m o x ps = None
 

@@ -1,40 +1,28 @@
 -- The machine reads the declarators of a declaration.
-use Rattle.std.proofs.Common.{◌≡◌, ℕ, zero, suc, ◌+◌, List, [], ◌∷◌, ◌++◌, length, Bool, true, false, Option, Some, None, refl, sym, ◌∙◌, ap, arith, append_assoc, length-append}
+use Rattle.std.proofs.Common.{◌≡◌, ℕ, zero, suc, ◌+◌, List, [], ◌∷◌, ◌++◌, length, true, Option, Some, None, refl, sym, ap, arith, append_assoc}
 use Rattle.std.specs.Prelude.{cond}
 use Rattle.std.specs.List.{AllByRecursion}
 use Rattle.ob_tree.specs.declared.tokens.TokenKind.{TokenKind}
 use Rattle.ob_tree.specs.declared.tokens.TokenKind.TheVariants as kind
 use Rattle.ob_tree.specs.declared.tokens.Sign.TheVariants as sign
-use Rattle.ob_tree.specs.Trees.{Mark, SpecTree, ObjTree, ObjTrees, DimTrees, InitTree}
+use Rattle.ob_tree.specs.Trees.{Mark, SpecTree, ObjTree, DimTrees}
 use Rattle.ob_tree.specs.Programs.{ParamsTree, FileTree}
-use Rattle.ob_tree.specs.Spelling.{stars, spell_dims, spell_init, listed, more_listed}
+use Rattle.ob_tree.specs.Spelling.{stars, listed, more_listed}
 use Rattle.ob_tree.specs.ProgramSpelling.{spell_file, spell_function}
-use Rattle.ob_tree.specs.Valid.{ValidDims, ValidObj}
+use Rattle.ob_tree.specs.Valid.{ValidDims}
 use Rattle.ob_tree.specs.ProgramValid.{ValidFile, ValidFiles, ValidParams, HasTag, DeclaresTag}
-use Rattle.ob_tree.specs.Places.{here, place_spec, place_dims, place_init, width_dims, width_init}
-use Rattle.ob_tree.specs.ProgramPlaces.{width_params, width_file, place_params, place_file, place_files}
+use Rattle.ob_tree.specs.Places.{here, place_spec, place_dims, width_dims}
+use Rattle.ob_tree.specs.ProgramPlaces.{width_file, place_params, place_file, place_files}
 use Rattle.ob_tree.proofs.Machine as expr
 use Rattle.ob_tree.proofs.FirstTokens.{FirstOf, first-more}
-use Rattle.ob_tree.proofs.ProgramStates.{Owner, Outer, Inner, Start, Heading, Declaration, Declarator, OfName, Target, SpecUse, ForDeclaration, State, Specifying, Declare, Dims, Init, Params, Closed}
+use Rattle.ob_tree.proofs.ProgramStates.{Owner, Outer, Inner, Start, Heading, Declaration, Declarator, OfName, Target, ForDeclaration, State, Specifying, Declare, Dims, Init, Params, Closed}
 use Rattle.ob_tree.proofs.ProgramMachine.{add_name, is_tagged, has_lengths, declares_tag, bare, next_name, end_declaration, parameters, step}
-use Rattle.ob_tree.proofs.ProgramRuns.{Reads, nothing, token, ◌before◌, counted, respelled, arrives, shifted, restart, Ends}
+use Rattle.ob_tree.proofs.ProgramRuns.{Reads, token, ◌before◌, counted, respelled, arrives, restart, Ends, all-stars}
 use Rattle.ob_tree.proofs.ProgramInits.{read-dims, read-open-dims, after_init, init-ends, read-init}
 use Rattle.ob_tree.proofs.ProgramParams.{read-params}
 
 abbrev pub named : Declaration → ℕ → List ℕ → ℕ → Declarator
 named d n name a = record { declaration = d; stars = n; name = name; at = a }
-
-more-stars : (lines : ℕ → ℕ) (d : Declaration) (i n p : ℕ) → Reads lines p (stars n) (Declare d i) (p + n) (Declare d (i + n))
-more-stars lines d i zero p = arrives (let e : i ≡ i + 0 = omega arith in ap (λ j. Declare d j) e) (counted nothing)
-more-stars lines d i (suc n) p =
-    shifted (let e : p + 1 + n ≡ p + suc n = omega arith in e) (
-      arrives (let e : i + 1 + n ≡ i + suc n = omega arith in ap (λ j. Declare d j) e) (
-        token (kind.Sign sign.Star) (p + 1) (Declare d (i + 1)) refl refl before more-stars lines d (i + 1) n (p + 1)
-      )
-    )
-
-all-stars : (lines : ℕ → ℕ) (d : Declaration) (n p : ℕ) → Reads lines p (stars n) (Declare d 0) (p + n) (Declare d n)
-all-stars lines d n p = arrives (let e : 0 + n ≡ n = omega arith in ap (λ j. Declare d j) e) (more-stars lines d 0 n p)
 
 -- Functions are declared by external declarations alone.
 abbrev IsOuter : Owner → Type 0
@@ -57,10 +45,10 @@ pub read-function : (lines : ℕ → ℕ) (d : Declaration) (n : ℕ) (name : Li
 read-function lines d n name ps p v o =
     let x = named d n name (p + n) in
     counted (
-      all-stars lines d n p
-      before token (kind.Name name) (p + n + 1) (Dims (OfName x) DimTrees.NoDims) refl refl
-      before token (kind.Sign sign.OpenParen) (p + n + 2) (Params (record { function = x; params = [] })) (outer-parameters d.heading.owner x o) (omega arith)
-      before read-params lines x ps (p + n + 2) v
+    all-stars lines (Declare d) (λ m i. refl) n p
+    before token (kind.Name name) (p + n + 1) (Dims (OfName x) DimTrees.NoDims) refl refl
+    before token (kind.Sign sign.OpenParen) (p + n + 2) (Params (record { function = x; params = [] })) (outer-parameters d.heading.owner x o) (omega arith)
+    before read-params lines x ps (p + n + 2) v
     )
 
 -- what is held behind a declarator
@@ -75,20 +63,20 @@ read-file lines d (FileTree.Function n name a ps) p v o = read-function lines d 
 read-file lines d (FileTree.Object (ObjTree.Bare n name a ds)) p v o =
     let h = OfName (named d n name (p + n)) in
     counted (
-      all-stars lines d n p
-      before token (kind.Name name) (p + n + 1) (Dims h DimTrees.NoDims) refl refl
-      before read-dims lines h ds DimTrees.NoDims (p + n + 1) v.1
+    all-stars lines (Declare d) (λ m i. refl) n p
+    before token (kind.Name name) (p + n + 1) (Dims h DimTrees.NoDims) refl refl
+    before read-dims lines h ds DimTrees.NoDims (p + n + 1) v.1
     )
 read-file lines d (FileTree.Object (ObjTree.Initial n name a ds i)) p v o =
     let x = named d n name (p + n) in
     let ds' = place_dims lines (p + n + 1) ds in
     let t : Target = record { declarator = x; dims = ds' } in
     counted (
-      all-stars lines d n p
-      before token (kind.Name name) (p + n + 1) (Dims (OfName x) DimTrees.NoDims) refl refl
-      before read-open-dims lines (OfName x) ds (p + n + 1) v.1
-      before token (kind.Sign sign.Assign) (p + n + width_dims ds + 2) (Init t []) refl (omega arith)
-      before read-init lines t i [] (p + n + width_dims ds + 2) v.2
+    all-stars lines (Declare d) (λ m i. refl) n p
+    before token (kind.Name name) (p + n + 1) (Dims (OfName x) DimTrees.NoDims) refl refl
+    before read-open-dims lines (OfName x) ds (p + n + 1) v.1
+    before token (kind.Sign sign.Assign) (p + n + width_dims ds + 2) (Init t []) refl (omega arith)
+    before read-init lines t i [] (p + n + width_dims ds + 2) v.2
     )
 
 -- A token that ends a declarator.
@@ -140,22 +128,22 @@ read-files : (lines : ℕ → ℕ) (x : FileTree) (xs : List FileTree) (d : Decl
 read-files lines x [] d p v vs o os =
     let x' = place_file lines p x in
     counted (
-      respelled (sym (append_assoc (spell_file x) [] (kind.Sign sign.Semi ∷ []))) (
-        read-file lines d x p v o
-        before token (kind.Sign sign.Semi) (p + width_file x + 1) (end_declaration (add_name d x')) (name-ends lines d x p (here lines (p + width_file x)) (kind.Sign sign.Semi) v tt) refl
-      )
+    respelled (sym (append_assoc (spell_file x) [] (kind.Sign sign.Semi ∷ []))) (
+    read-file lines d x p v o
+    before token (kind.Sign sign.Semi) (p + width_file x + 1) (end_declaration (add_name d x')) (name-ends lines d x p (here lines (p + width_file x)) (kind.Sign sign.Semi) v tt) refl
+    )
     )
 read-files lines x (y ∷ ys) d p v vs o os =
     let x' = place_file lines p x in
     let q = p + width_file x + 1 in
     counted (
-      respelled (sym (append_assoc (spell_file x) (more_listed spell_file (y ∷ ys)) (kind.Sign sign.Semi ∷ []))) (
-        arrives (ap (λ z. end_declaration (record { heading = d.heading; spec = d.spec; names = z })) (append_assoc d.names (x' ∷ []) (place_files lines q (y ∷ ys)))) (
-          read-file lines d x p v o
-          before token (kind.Sign sign.Comma) q (Declare (add_name d x') 0) (name-ends lines d x p (here lines (p + width_file x)) (kind.Sign sign.Comma) v tt) refl
-          before read-files lines y ys (add_name d x') q vs.0 vs.1 os.0 os.1
-        )
-      )
+    respelled (sym (append_assoc (spell_file x) (more_listed spell_file (y ∷ ys)) (kind.Sign sign.Semi ∷ []))) (
+    arrives (ap (λ z. end_declaration (record { heading = d.heading; spec = d.spec; names = z })) (append_assoc d.names (x' ∷ []) (place_files lines q (y ∷ ys)))) (
+    read-file lines d x p v o
+    before token (kind.Sign sign.Comma) q (Declare (add_name d x') 0) (name-ends lines d x p (here lines (p + width_file x)) (kind.Sign sign.Comma) v tt) refl
+    before read-files lines y ys (add_name d x') q vs.0 vs.1 os.0 os.1
+    )
+    )
     )
 
 -- A declarator begins with a star or a name.

@@ -1,5 +1,5 @@
 -- The machine reads parameters.
-use Rattle.std.proofs.Common.{◌≡◌, ℕ, zero, suc, ◌+◌, List, [], ◌∷◌, ◌++◌, length, Bool, true, false, Option, Some, None, refl, sym, ◌∙◌, ap, subst, arith, append_assoc, length-append}
+use Rattle.std.proofs.Common.{◌≡◌, ℕ, zero, suc, ◌+◌, List, [], ◌∷◌, ◌++◌, length, false, Option, Some, None, refl, sym, ◌∙◌, ap, subst, arith, append_assoc, length-append}
 use Rattle.std.specs.Prelude.{cond}
 use Rattle.std.specs.List.{AllByRecursion}
 use Rattle.ob_tree.specs.declared.tokens.TokenKind.{TokenKind}
@@ -11,14 +11,14 @@ use Rattle.ob_tree.specs.Programs.{ParamTree, ParamsTree}
 use Rattle.ob_tree.specs.Spelling.{stars, spell_spec, spell_name, spell_dims, listed, more_listed}
 use Rattle.ob_tree.specs.ProgramSpelling.{spell_param, spell_params}
 use Rattle.ob_tree.specs.Valid.{ValidOpenDims}
-use Rattle.ob_tree.specs.ProgramValid.{ValidParam, ValidList, ValidParams, is_void_alone}
-use Rattle.ob_tree.specs.Places.{here, place_spec, place_dims, width_name, width_spec, width_dims}
+use Rattle.ob_tree.specs.ProgramValid.{ValidParam, ValidParams, is_void_alone}
+use Rattle.ob_tree.specs.Places.{here, place_spec, place_dims, width_name, width_spec}
 use Rattle.ob_tree.specs.ProgramPlaces.{width_param, width_params, name_place, place_param, place_list, place_params}
 use Rattle.ob_tree.proofs.Machine as expr
 use Rattle.ob_tree.proofs.FirstTokens.{FirstOf, first-more, first-spec, BeginsSpec}
-use Rattle.ob_tree.proofs.ProgramStates.{Declarator, Listing, OfParam, SpecUse, ForParam, State, Specifying, Dims, Params, NextParam, Param, Closed}
+use Rattle.ob_tree.proofs.ProgramStates.{Declarator, Listing, OfParam, ForParam, State, Specifying, Dims, Params, NextParam, Param, Closed}
 use Rattle.ob_tree.proofs.ProgramMachine.{add_param, params_of, next_param, step}
-use Rattle.ob_tree.proofs.ProgramRuns.{Reads, nothing, token, ◌before◌, counted, respelled, arrives, shifted, restart, read-spec, spec-ends, EndsSpec}
+use Rattle.ob_tree.proofs.ProgramRuns.{Reads, nothing, token, ◌before◌, counted, respelled, arrives, shifted, restart, read-spec, spec-ends, EndsSpec, all-stars}
 use Rattle.ob_tree.proofs.ProgramInits.{read-open-dims}
 
 -- A token that ends a parameter.
@@ -45,15 +45,6 @@ StartsDims k = ⊥
 module _ (lines : ℕ → ℕ) (l : Listing) (f : ℕ) (s : SpecTree) where
   abbrev made : ℕ → Option (List ℕ) → ℕ → DimTrees → ParamTree
   made i name a ds = record { first = f; line = lines f; spec = s; stars = i; name = name; at = a; dims = ds }
-
-  more-stars : (i j p : ℕ) → Reads lines p (stars j) (Param l f (lines f) s i) (p + j) (Param l f (lines f) s (i + j))
-  more-stars i zero p = arrives (let e : i ≡ i + 0 = omega arith in ap (λ x. Param l f (lines f) s x) e) (counted nothing)
-  more-stars i (suc j) p =
-      shifted (let e : p + 1 + j ≡ p + suc j = omega arith in e) (
-        arrives (let e : i + 1 + j ≡ i + suc j = omega arith in ap (λ x. Param l f (lines f) s x) e) (
-          token (kind.Sign sign.Star) (p + 1) (Param l f (lines f) s (i + 1)) refl refl before more-stars (i + 1) j (p + 1)
-        )
-      )
 
   dims-start : (i : ℕ) (m : Mark) (k : TokenKind) → StartsDims k
       → step m k (Param l f (lines f) s i) ≡ step m k (Dims (OfParam l f (lines f) s i None f) DimTrees.NoDims)
@@ -108,9 +99,9 @@ module _ (lines : ℕ → ℕ) (l : Listing) (f : ℕ) (s : SpecTree) where
       record {
         behind = Dims h (place_dims lines q ds);
         reads = counted (
-          token (kind.Name name) q (Dims h DimTrees.NoDims) refl e
-          before read-open-dims lines h ds q v
-        );
+            token (kind.Name name) q (Dims h DimTrees.NoDims) refl e
+            before read-open-dims lines h ds q v
+            );
         ends = dims-end i (Some name) (f + b) (place_dims lines q ds);
       }
 
@@ -122,7 +113,7 @@ module _ (lines : ℕ → ℕ) (l : Listing) (f : ℕ) (s : SpecTree) where
       let r = read-named i name ds (b + i) q (omega (arith, e)) v in
       record {
         behind = r.behind;
-        reads = counted (shifted g (arrives (let z : 0 + i ≡ i = omega arith in ap (λ x. Param l f (lines f) s x) z) (more-stars 0 i (f + b))) before r.reads);
+        reads = counted (shifted g (all-stars lines (Param l f (lines f) s) (λ m j. refl) i (f + b)) before r.reads);
         ends = r.ends;
       }
 
@@ -173,10 +164,10 @@ read-list lines x [] l s p same v w =
     let r = read-param lines l x p v in
     let first = first-more BeginsSpec (spell_spec x.spec) (stars x.stars ++ (spell_name x.name ++ spell_dims x.dims)) (first-spec x.spec v.0) in
     counted (
-      respelled (sym (append_assoc (spell_param x) [] (kind.Sign sign.CloseParen ∷ []))) (
-        restart (Specifying (ForParam l p (lines p)) (expr.Specifier [])) BeginsSpec first same r.reads
-        before token (kind.Sign sign.CloseParen) (p + width_param x + 1) (Closed l.function (params_of (l.params ++ place_param lines p x ∷ []))) (r.ends (here lines (p + width_param x)) (kind.Sign sign.CloseParen) tt) refl
-      )
+    respelled (sym (append_assoc (spell_param x) [] (kind.Sign sign.CloseParen ∷ []))) (
+    restart (Specifying (ForParam l p (lines p)) (expr.Specifier [])) BeginsSpec first same r.reads
+    before token (kind.Sign sign.CloseParen) (p + width_param x + 1) (Closed l.function (params_of (l.params ++ place_param lines p x ∷ []))) (r.ends (here lines (p + width_param x)) (kind.Sign sign.CloseParen) tt) refl
+    )
     )
 read-list lines x (y ∷ ys) l s p same v w =
     let r = read-param lines l x p v in
@@ -184,13 +175,13 @@ read-list lines x (y ∷ ys) l s p same v w =
     let q = p + width_param x + 1 in
     let first = first-more BeginsSpec (spell_spec x.spec) (stars x.stars ++ (spell_name x.name ++ spell_dims x.dims)) (first-spec x.spec v.0) in
     counted (
-      respelled (sym (append_assoc (spell_param x) (more_listed spell_param (y ∷ ys)) (kind.Sign sign.CloseParen ∷ []))) (
-        arrives (ap (λ z. Closed l.function (params_of z)) (append_assoc l.params (x' ∷ []) (place_list lines q (y ∷ ys)))) (
-          restart (Specifying (ForParam l p (lines p)) (expr.Specifier [])) BeginsSpec first same r.reads
-          before token (kind.Sign sign.Comma) q (NextParam (add_param l x')) (r.ends (here lines (p + width_param x)) (kind.Sign sign.Comma) tt) refl
-          before read-list lines y ys (add_param l x') (NextParam (add_param l x')) q (λ k h. refl) w.0 w.1
-        )
-      )
+    respelled (sym (append_assoc (spell_param x) (more_listed spell_param (y ∷ ys)) (kind.Sign sign.CloseParen ∷ []))) (
+    arrives (ap (λ z. Closed l.function (params_of z)) (append_assoc l.params (x' ∷ []) (place_list lines q (y ∷ ys)))) (
+    restart (Specifying (ForParam l p (lines p)) (expr.Specifier [])) BeginsSpec first same r.reads
+    before token (kind.Sign sign.Comma) q (NextParam (add_param l x')) (r.ends (here lines (p + width_param x)) (kind.Sign sign.Comma) tt) refl
+    before read-list lines y ys (add_param l x') (NextParam (add_param l x')) q (λ k h. refl) w.0 w.1
+    )
+    )
     )
 
 -- `void` alone is what it was, placed or not
@@ -225,8 +216,8 @@ read-params lines x (ParamsTree.Listed (y ∷ [])) p v =
     let e : is_void_alone (place_spec lines p y.spec) y.stars y.name (place_dims lines (p + width_spec y.spec + y.stars + width_name y.name) y.dims) ≡ false =
     void-placed lines p (p + width_spec y.spec + y.stars + width_name y.name) y.spec y.stars y.name y.dims ∙ v.0 in
     shifted n (
-      arrives (ap (λ b. Closed x (cond b ParamsTree.Void (ParamsTree.Listed (place_param lines p y ∷ [])))) e)
-      (read-list lines y [] l (Params l) p (first-starts (here lines p) l) v.1 tt)
+    arrives (ap (λ b. Closed x (cond b ParamsTree.Void (ParamsTree.Listed (place_param lines p y ∷ [])))) e)
+    (read-list lines y [] l (Params l) p (first-starts (here lines p) l) v.1 tt)
     )
 read-params lines x (ParamsTree.Listed (y ∷ (z ∷ zs))) p v =
     let l : Listing = record { function = x; params = [] } in

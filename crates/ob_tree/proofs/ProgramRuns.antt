@@ -1,15 +1,14 @@
 -- Runs of the machine that reads programs, in parts, and what it does with an expression or a specifier.
-use Rattle.std.proofs.Common.{◌≡◌, ℕ, suc, ◌+◌, ◌≤◌, List, [], ◌∷◌, ◌++◌, length, Bool, true, false, Option, Some, None, refl, sym, ◌∙◌, ap, subst, arith, length-append}
+use Rattle.std.proofs.Common.{◌≡◌, ℕ, zero, suc, ◌+◌, ◌≤◌, List, [], ◌∷◌, ◌++◌, length, false, Option, Some, None, refl, sym, ◌∙◌, ap, subst, arith, length-append}
 use Rattle.std.specs.Prelude.{nat_le}
 use Rattle.std.proofs.lemmas.Bool.Decides.{nat_tests}
 use Rattle.ob_tree.specs.declared.tokens.TokenKind.{TokenKind}
 use Rattle.ob_tree.specs.declared.tokens.TokenKind.TheVariants as kind
 use Rattle.ob_tree.specs.declared.tokens.Keyword.{Keyword}
 use Rattle.ob_tree.specs.declared.tokens.Keyword.TheVariants as word
-use Rattle.ob_tree.specs.declared.tokens.Sign.{Sign}
 use Rattle.ob_tree.specs.declared.tokens.Sign.TheVariants as sign
 use Rattle.ob_tree.specs.Trees.{Mark, ExprTree, SpecTree}
-use Rattle.ob_tree.specs.Spelling.{spell, spell_spec}
+use Rattle.ob_tree.specs.Spelling.{stars, spell, spell_spec}
 use Rattle.ob_tree.specs.Levels.{level_of}
 use Rattle.ob_tree.specs.Valid.{Valid, ValidSpec, IsOf}
 use Rattle.ob_tree.specs.Places.{here, place, place_spec, width, width_spec}
@@ -17,7 +16,7 @@ use Rattle.ob_tree.proofs.Machine as expr
 use Rattle.ob_tree.proofs.PlaceKeeps.{valid-place}
 use Rattle.ob_tree.proofs.Settled.{pend, settled, reduce-settled, binds-comma, le-yes}
 use Rattle.ob_tree.proofs.Runs.{run-none}
-use Rattle.ob_tree.proofs.FirstTokens.{FirstOf, first-more, first-operand, first-spec, BeginsSpec}
+use Rattle.ob_tree.proofs.FirstTokens.{FirstOf, first-operand}
 use Rattle.ob_tree.proofs.Through.{through, through-spec}
 use Rattle.ob_tree.proofs.ProgramStates.{Use, SpecUse, State, Reading, Specifying}
 use Rattle.ob_tree.proofs.ProgramMachine.{use_level, used, read_to, read_whole, specify_to, specified, step, step_if, run}
@@ -76,6 +75,21 @@ restart {lines = lines} {p = p} {xs = xs} {s = s} {t = t} other Fits f same r = 
   where
     agree : run lines p xs (Some s) ≡ run lines p xs (Some other)
     agree = rw f.are (ap (λ o. run lines (p + 1) f.rest o) (same f.token f.fits))
+
+-- so many stars, where each leads from one state to the next
+pub read-stars : (lines : ℕ → ℕ) (starred : ℕ → State) → ((m : Mark) (i : ℕ) → step m (kind.Sign sign.Star) (starred i) ≡ Some (starred (i + 1)))
+    → (n p i : ℕ) → Reads lines p (stars n) (starred i) (p + n) (starred (i + n))
+read-stars lines starred goes zero p i = arrives (let e : i ≡ i + 0 = omega arith in ap starred e) (counted nothing)
+read-stars lines starred goes (suc n) p i =
+    shifted (let e : p + 1 + n ≡ p + suc n = omega arith in e) (
+    arrives (let e : i + 1 + n ≡ i + suc n = omega arith in ap starred e) (
+    token (kind.Sign sign.Star) (p + 1) (starred (i + 1)) (goes (here lines p) i) refl before read-stars lines starred goes n (p + 1) (i + 1)
+    )
+    )
+
+pub all-stars : (lines : ℕ → ℕ) (starred : ℕ → State) → ((m : Mark) (i : ℕ) → step m (kind.Sign sign.Star) (starred i) ≡ Some (starred (i + 1)))
+    → (n p : ℕ) → Reads lines p (stars n) (starred 0) (p + n) (starred n)
+all-stars lines starred goes n p = arrives (let e : 0 + n ≡ n = omega arith in ap starred e) (read-stars lines starred goes n p 0)
 
 -- The machine that reads expressions goes on in this one.
 expr-lift : (lines : ℕ → ℕ) (u : Use) (ks : List TokenKind) (p : ℕ) (s t : expr.State)

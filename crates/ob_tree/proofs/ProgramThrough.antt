@@ -1,5 +1,5 @@
 -- The machine reads each valid statement and block from its spelling.
-use Rattle.std.proofs.Common.{◌≡◌, ℕ, ◌+◌, List, [], ◌∷◌, ◌++◌, length, Bool, true, false, Option, Some, None, refl, sym, ◌∙◌, ap, arith, append_assoc}
+use Rattle.std.proofs.Common.{◌≡◌, ℕ, ◌+◌, List, [], ◌∷◌, ◌++◌, length, true, false, Some, None, refl, sym, ◌∙◌, ap, arith, append_assoc}
 use Rattle.std.specs.Prelude.{cond}
 use Rattle.ob_tree.specs.declared.tokens.TokenKind.{TokenKind}
 use Rattle.ob_tree.specs.declared.tokens.TokenKind.TheVariants as kind
@@ -9,16 +9,17 @@ use Rattle.ob_tree.specs.declared.tokens.Sign.TheVariants as sign
 use Rattle.ob_tree.specs.Trees.{Mark, ExprTree}
 use Rattle.ob_tree.specs.Programs.{LocalTree, StartTree, StmtTree, BlockTrees}
 use Rattle.ob_tree.specs.ProgramSpelling.{spell_local, spell_start, spell_stmt, spell_block}
-use Rattle.ob_tree.specs.Valid.{Valid}
+use Rattle.ob_tree.specs.Spelling.{spell}
+use Rattle.ob_tree.specs.Valid.{IsOf}
 use Rattle.ob_tree.specs.ProgramValid.{ValidStart, ValidStmt, ValidBlock, ends_in_if}
 use Rattle.ob_tree.specs.Places.{here, place, width}
 use Rattle.ob_tree.specs.ProgramPlaces.{width_option, width_local, width_start, width_stmt, place_option, place_local, place_start, place_stmt, place_block}
 use Rattle.ob_tree.proofs.Machine as expr
 use Rattle.ob_tree.proofs.PlaceKeeps.{valid-place}
-use Rattle.ob_tree.proofs.ProgramStates.{Frame, InBody, InBlock, InIf, InElse, InWhile, InDo, InFor, Inner, Use, Statement, IfTest, WhileTest, DoTest, ForStart, ForTest, ForNext, Return, State, Optional, Reading, Begin, Opening, ForWord, ForOpen, Semi, Done}
-use Rattle.ob_tree.proofs.ProgramMachine.{add_statement, add_local, begins_declaration, begin_declaration, statement, statement_word, block_item, to_else, reduce, after_whole, done, step}
+use Rattle.ob_tree.proofs.ProgramStates.{Frame, InBlock, InIf, InElse, InWhile, InDo, InFor, Inner, Use, Statement, IfTest, WhileTest, DoTest, ForStart, ForTest, ForNext, Return, State, Optional, Reading, Begin, Opening, ForWord, ForOpen, Semi, Done}
+use Rattle.ob_tree.proofs.ProgramMachine.{use_level, used, add_statement, add_local, begins_declaration, begin_declaration, statement, statement_word, block_item, to_else, reduce, after_whole, done, step}
 use Rattle.ob_tree.proofs.ProgramRuns.{Reads, token, ◌before◌, counted, respelled, arrives, shifted, restart, read-expr, expr-ends, StartsExpr, first-expr}
-use Rattle.ob_tree.proofs.ProgramInits.{optional-starts, any-level, after_option, read-option, option-ends}
+use Rattle.ob_tree.proofs.ProgramInits.{optional-starts, any-level, read-option, option-ends}
 use Rattle.ob_tree.proofs.ProgramDeclarations.{BeginsDeclaration, read-local, read-for-local}
 
 -- The statement is the last part of what it stands in: the statements on its right side as frames, and the one at
@@ -160,6 +161,16 @@ block-stmt (BlockTrees.Declaration l xs) s ys = ap (BlockTrees.Declaration l) (b
 block-stmt (BlockTrees.Statement x xs) s ys = ap (BlockTrees.Statement x) (block-stmt xs s ys)
 
 module _ (lines : ℕ → ℕ) where
+  -- a test in its parentheses, and what follows it
+  read-test : {q : ℕ} {ys : List TokenKind} {r : State} → (u : Use) (c : ExprTree) (p a b : ℕ) (t : State) → IsOf (use_level u) c
+      → used (kind.Sign sign.CloseParen) u (Some (place lines a c)) ≡ Some t → a ≡ p + 1 → b ≡ a + width c + 1 → Reads lines b ys t q r
+      → Reads lines p (kind.Sign sign.OpenParen ∷ (spell c ++ kind.Sign sign.CloseParen ∷ ys)) (Opening u) q r
+  read-test u c p a b t v e h g rest =
+      token (kind.Sign sign.OpenParen) a (Reading u (expr.Operand [])) refl h
+      before read-expr lines u c a v
+      before token (kind.Sign sign.CloseParen) b t (expr-ends u (here lines (a + width c)) (kind.Sign sign.CloseParen) (place lines a c) (valid-place lines a c v.0) tt ∙ e) g
+      before rest
+
   -- the first part of a `for`, with its semicolon
   read-start : (start : StartTree) (f n : ℕ) (fs : List Frame) (p q : ℕ) → ValidStart start → q ≡ p + width_start start
       → Reads lines p (spell_start start) (ForOpen f n fs) q (Optional (ForTest f n (place_start lines p start) fs))
@@ -167,11 +178,11 @@ module _ (lines : ℕ → ℕ) where
   read-start (StartTree.Expr (Some e)) f n fs p q v h =
       let u = ForStart f n fs in
       shifted (sym h) (
-        counted (
-          restart (Reading u (expr.Operand [])) StartsExpr (first-expr e v) (λ k s. for-expr (here lines p) k f n fs s) (read-expr lines u e p (v, omega arith))
-          before token (kind.Sign sign.Semi) (p + width e + 1) (Optional (ForTest f n (StartTree.Expr (Some (place lines p e))) fs))
-          (expr-ends u (here lines (p + width e)) (kind.Sign sign.Semi) (place lines p e) (valid-place lines p e v) tt) refl
-        )
+      counted (
+      restart (Reading u (expr.Operand [])) StartsExpr (first-expr e v) (λ k s. for-expr (here lines p) k f n fs s) (read-expr lines u e p (v, omega arith))
+      before token (kind.Sign sign.Semi) (p + width e + 1) (Optional (ForTest f n (StartTree.Expr (Some (place lines p e))) fs))
+      (expr-ends u (here lines (p + width e)) (kind.Sign sign.Semi) (place lines p e) (valid-place lines p e v) tt) refl
+      )
       )
   read-start (StartTree.Local l) f n fs p q v h = shifted (sym h) (read-for-local lines f n fs l p v.0 v.1)
 
@@ -182,30 +193,27 @@ module _ (lines : ℕ → ℕ) where
         → Reads lines p (spell_stmt s) st (p + width_stmt s) (after_stmt (place_stmt lines p s) fs)
     read-stmt (StmtTree.Block f n items) fs st p v same =
         counted (
-          token (kind.Sign sign.OpenBrace) (p + 1) (Begin (InBlock p (lines p) BlockTrees.NoItems ∷ fs)) (same (kind.Sign sign.OpenBrace) tt) refl
-          before read-block items p (lines p) BlockTrees.NoItems fs (Begin (InBlock p (lines p) BlockTrees.NoItems ∷ fs)) (p + 1) v (λ k h. refl)
+        token (kind.Sign sign.OpenBrace) (p + 1) (Begin (InBlock p (lines p) BlockTrees.NoItems ∷ fs)) (same (kind.Sign sign.OpenBrace) tt) refl
+        before read-block items p (lines p) BlockTrees.NoItems fs (Begin (InBlock p (lines p) BlockTrees.NoItems ∷ fs)) (p + 1) v (λ k h. refl)
         )
     read-stmt (StmtTree.Expr f n None) fs st p v same =
         token (kind.Sign sign.Semi) (p + 1) (Done (StmtTree.Expr p (lines p) None) fs) (same (kind.Sign sign.Semi) tt) refl
     read-stmt (StmtTree.Expr f n (Some e)) fs st p v same =
         let u = Statement p (lines p) fs in
         counted (
-          restart (Reading u (expr.Operand [])) StartsExpr (first-expr e v) (λ k s. same k (expr-starts k s) ∙ expr-statement (here lines p) k fs s)
-          (read-expr lines u e p (v, omega arith))
-          before token (kind.Sign sign.Semi) (p + width e + 1) (Done (StmtTree.Expr p (lines p) (Some (place lines p e))) fs)
-          (expr-ends u (here lines (p + width e)) (kind.Sign sign.Semi) (place lines p e) (valid-place lines p e v) tt) refl
+        restart (Reading u (expr.Operand [])) StartsExpr (first-expr e v) (λ k s. same k (expr-starts k s) ∙ expr-statement (here lines p) k fs s)
+        (read-expr lines u e p (v, omega arith))
+        before token (kind.Sign sign.Semi) (p + width e + 1) (Done (StmtTree.Expr p (lines p) (Some (place lines p e))) fs)
+        (expr-ends u (here lines (p + width e)) (kind.Sign sign.Semi) (place lines p e) (valid-place lines p e v) tt) refl
         )
     read-stmt (StmtTree.If f n c s) fs st p v same =
         let c' = place lines (p + 2) c in
         let u = IfTest p (lines p) fs in
         let gs = InIf p (lines p) c' ∷ fs in
         counted (
-          token (kind.Word word.If) (p + 1) (Opening u) (same (kind.Word word.If) refl) refl
-          before token (kind.Sign sign.OpenParen) (p + 2) (Reading u (expr.Operand [])) refl (omega arith)
-          before read-expr lines u c (p + 2) (v.0, omega arith)
-          before token (kind.Sign sign.CloseParen) (p + width c + 3) (Begin gs)
-          (expr-ends u (here lines (p + 2 + width c)) (kind.Sign sign.CloseParen) c' (valid-place lines (p + 2) c v.0) tt) (omega arith)
-          before read-stmt s gs (Begin gs) (p + width c + 3) v.1 (λ k h. refl)
+        token (kind.Word word.If) (p + 1) (Opening u) (same (kind.Word word.If) refl) refl
+        before read-test u c (p + 1) (p + 2) (p + width c + 3) (Begin gs) (v.0, omega arith) refl (omega arith) (omega arith)
+        (read-stmt s gs (Begin gs) (p + width c + 3) v.1 (λ k h. refl))
         )
     read-stmt (StmtTree.IfElse f n c s t) fs st p v same =
         let c' = place lines (p + 2) c in
@@ -215,26 +223,21 @@ module _ (lines : ℕ → ℕ) where
         let gs = InIf p (lines p) c' ∷ fs in
         let hs = InElse p (lines p) c' (place_stmt lines a s) ∷ fs in
         counted (
-          token (kind.Word word.If) (p + 1) (Opening u) (same (kind.Word word.If) refl) refl
-          before token (kind.Sign sign.OpenParen) (p + 2) (Reading u (expr.Operand [])) refl (omega arith)
-          before read-expr lines u c (p + 2) (v.0, omega arith)
-          before token (kind.Sign sign.CloseParen) a (Begin gs)
-          (expr-ends u (here lines (p + 2 + width c)) (kind.Sign sign.CloseParen) c' (valid-place lines (p + 2) c v.0) tt) (omega arith)
-          before read-stmt s gs (Begin gs) a v.1 (λ k h. refl)
-          before token (kind.Word word.Else) b (Begin hs) (else-follows lines a (here lines (a + width_stmt s)) s p (lines p) c' fs v.2) (omega arith)
-          before read-stmt t hs (Begin hs) b v.3 (λ k h. refl)
+        token (kind.Word word.If) (p + 1) (Opening u) (same (kind.Word word.If) refl) refl
+        before read-test u c (p + 1) (p + 2) a (Begin gs) (v.0, omega arith) refl (omega arith) (omega arith) (
+        read-stmt s gs (Begin gs) a v.1 (λ k h. refl)
+        before token (kind.Word word.Else) b (Begin hs) (else-follows lines a (here lines (a + width_stmt s)) s p (lines p) c' fs v.2) (omega arith)
+        before read-stmt t hs (Begin hs) b v.3 (λ k h. refl)
+        )
         )
     read-stmt (StmtTree.While f n c s) fs st p v same =
         let c' = place lines (p + 2) c in
         let u = WhileTest p (lines p) fs in
         let gs = InWhile p (lines p) c' ∷ fs in
         counted (
-          token (kind.Word word.While) (p + 1) (Opening u) (same (kind.Word word.While) refl) refl
-          before token (kind.Sign sign.OpenParen) (p + 2) (Reading u (expr.Operand [])) refl (omega arith)
-          before read-expr lines u c (p + 2) (v.0, omega arith)
-          before token (kind.Sign sign.CloseParen) (p + width c + 3) (Begin gs)
-          (expr-ends u (here lines (p + 2 + width c)) (kind.Sign sign.CloseParen) c' (valid-place lines (p + 2) c v.0) tt) (omega arith)
-          before read-stmt s gs (Begin gs) (p + width c + 3) v.1 (λ k h. refl)
+        token (kind.Word word.While) (p + 1) (Opening u) (same (kind.Word word.While) refl) refl
+        before read-test u c (p + 1) (p + 2) (p + width c + 3) (Begin gs) (v.0, omega arith) refl (omega arith) (omega arith)
+        (read-stmt s gs (Begin gs) (p + width c + 3) v.1 (λ k h. refl))
         )
     read-stmt (StmtTree.Do f n s c) fs st p v same =
         let s' = place_stmt lines (p + 1) s in
@@ -243,14 +246,11 @@ module _ (lines : ℕ → ℕ) where
         let u = DoTest p (lines p) s' fs in
         let gs = InDo p (lines p) ∷ fs in
         counted (
-          token (kind.Word word.Do) (p + 1) (Begin gs) (same (kind.Word word.Do) refl) refl
-          before read-stmt s gs (Begin gs) (p + 1) v.0 (λ k h. refl)
-          before token (kind.Word word.While) (p + width_stmt s + 2) (Opening u) (stmt-ends (here lines (p + 1 + width_stmt s)) (kind.Word word.While) s' gs tt) (omega arith)
-          before token (kind.Sign sign.OpenParen) a (Reading u (expr.Operand [])) refl (omega arith)
-          before read-expr lines u c a (v.1, omega arith)
-          before token (kind.Sign sign.CloseParen) (a + width c + 1) (Semi (StmtTree.Do p (lines p) s' c') fs)
-          (expr-ends u (here lines (a + width c)) (kind.Sign sign.CloseParen) c' (valid-place lines a c v.1) tt) refl
-          before token (kind.Sign sign.Semi) (a + width c + 2) (Done (StmtTree.Do p (lines p) s' c') fs) refl (omega arith)
+        token (kind.Word word.Do) (p + 1) (Begin gs) (same (kind.Word word.Do) refl) refl
+        before read-stmt s gs (Begin gs) (p + 1) v.0 (λ k h. refl)
+        before token (kind.Word word.While) (p + width_stmt s + 2) (Opening u) (stmt-ends (here lines (p + 1 + width_stmt s)) (kind.Word word.While) s' gs tt) (omega arith)
+        before read-test u c (p + width_stmt s + 2) a (a + width c + 1) (Semi (StmtTree.Do p (lines p) s' c') fs) (v.1, omega arith) refl (omega arith) refl
+        (token (kind.Sign sign.Semi) (a + width c + 2) (Done (StmtTree.Do p (lines p) s' c') fs) refl (omega arith))
         )
     read-stmt (StmtTree.For f n start test next s) fs st p v same =
         let a = p + width_start start + 2 in
@@ -263,14 +263,14 @@ module _ (lines : ℕ → ℕ) where
         let w = ForNext p (lines p) start' test' fs in
         let gs = InFor p (lines p) start' test' next' ∷ fs in
         counted (
-          token (kind.Word word.For) (p + 1) (ForWord p (lines p) fs) (same (kind.Word word.For) refl) refl
-          before token (kind.Sign sign.OpenParen) (p + 2) (ForOpen p (lines p) fs) refl (omega arith)
-          before read-start start p (lines p) fs (p + 2) a v.0 (omega arith)
-          before read-option lines u test a (any-level test v.1)
-          before token (kind.Sign sign.Semi) b (Optional w) (option-ends lines u test a (here lines (a + width_option test)) (kind.Sign sign.Semi) _ (any-level test v.1) tt refl) (omega arith)
-          before read-option lines w next b (any-level next v.2)
-          before token (kind.Sign sign.CloseParen) d (Begin gs) (option-ends lines w next b (here lines (b + width_option next)) (kind.Sign sign.CloseParen) _ (any-level next v.2) tt refl) (omega arith)
-          before read-stmt s gs (Begin gs) d v.3 (λ k h. refl)
+        token (kind.Word word.For) (p + 1) (ForWord p (lines p) fs) (same (kind.Word word.For) refl) refl
+        before token (kind.Sign sign.OpenParen) (p + 2) (ForOpen p (lines p) fs) refl (omega arith)
+        before read-start start p (lines p) fs (p + 2) a v.0 (omega arith)
+        before read-option lines u test a (any-level test v.1)
+        before token (kind.Sign sign.Semi) b (Optional w) (option-ends lines u test a (here lines (a + width_option test)) (kind.Sign sign.Semi) _ (any-level test v.1) tt refl) (omega arith)
+        before read-option lines w next b (any-level next v.2)
+        before token (kind.Sign sign.CloseParen) d (Begin gs) (option-ends lines w next b (here lines (b + width_option next)) (kind.Sign sign.CloseParen) _ (any-level next v.2) tt refl) (omega arith)
+        before read-stmt s gs (Begin gs) d v.3 (λ k h. refl)
         )
     read-stmt (StmtTree.Break f n) fs st p v same =
         token (kind.Word word.Break) (p + 1) (Semi (StmtTree.Break p (lines p)) fs) (same (kind.Word word.Break) refl) refl
@@ -281,10 +281,10 @@ module _ (lines : ℕ → ℕ) where
     read-stmt (StmtTree.Return f n e) fs st p v same =
         let u = Return p (lines p) fs in
         counted (
-          token (kind.Word word.Return) (p + 1) (Optional u) (same (kind.Word word.Return) refl) refl
-          before read-option lines u e (p + 1) (any-level e v)
-          before token (kind.Sign sign.Semi) (p + 1 + width_option e + 1) (Done (StmtTree.Return p (lines p) (place_option lines (p + 1) e)) fs)
-          (option-ends lines u e (p + 1) (here lines (p + 1 + width_option e)) (kind.Sign sign.Semi) _ (any-level e v) tt refl) refl
+        token (kind.Word word.Return) (p + 1) (Optional u) (same (kind.Word word.Return) refl) refl
+        before read-option lines u e (p + 1) (any-level e v)
+        before token (kind.Sign sign.Semi) (p + 1 + width_option e + 1) (Done (StmtTree.Return p (lines p) (place_option lines (p + 1) e)) fs)
+        (option-ends lines u e (p + 1) (here lines (p + 1 + width_option e)) (kind.Sign sign.Semi) _ (any-level e v) tt refl) refl
         )
 
     -- what is left of a block, and its closing brace, from a state that begins a block item
@@ -299,22 +299,22 @@ module _ (lines : ℕ → ℕ) where
         let l' = place_local lines p l in
         let q = p + width_local l in
         counted (
-          respelled (sym (append_assoc (spell_local l) (spell_block items) (kind.Sign sign.CloseBrace ∷ []))) (
-            arrives (ap (λ x. Done (StmtTree.Block f n x) fs) (block-local xs l' (place_block lines q items))) (
-              read-local lines f n xs fs l st p v.0 (λ k b. same k (declares-not-else k b) ∙ block-declaration (here lines p) k f n xs fs b)
-              before read-block items f n (add_local xs l') fs (Begin (InBlock f n (add_local xs l') ∷ fs)) q v.1 (λ k h. refl)
-            )
-          )
+        respelled (sym (append_assoc (spell_local l) (spell_block items) (kind.Sign sign.CloseBrace ∷ []))) (
+        arrives (ap (λ x. Done (StmtTree.Block f n x) fs) (block-local xs l' (place_block lines q items))) (
+        read-local lines f n xs fs l st p v.0 (λ k b. same k (declares-not-else k b) ∙ block-declaration (here lines p) k f n xs fs b)
+        before read-block items f n (add_local xs l') fs (Begin (InBlock f n (add_local xs l') ∷ fs)) q v.1 (λ k h. refl)
+        )
+        )
         )
     read-block (BlockTrees.Statement s items) f n xs fs st p v same =
         let s' = place_stmt lines p s in
         let q = p + width_stmt s in
         let gs = InBlock f n xs ∷ fs in
         counted (
-          respelled (sym (append_assoc (spell_stmt s) (spell_block items) (kind.Sign sign.CloseBrace ∷ []))) (
-            arrives (ap (λ x. Done (StmtTree.Block f n x) fs) (block-stmt xs s' (place_block lines q items))) (
-              read-stmt s gs st p v.0 (λ k b. same k (starts-not-else k b) ∙ block-statement (here lines p) k f n xs fs b)
-              before read-block items f n (add_statement xs s') fs (after_stmt s' gs) q v.1 (λ k h. stmt-ends (here lines q) k s' gs h)
-            )
-          )
+        respelled (sym (append_assoc (spell_stmt s) (spell_block items) (kind.Sign sign.CloseBrace ∷ []))) (
+        arrives (ap (λ x. Done (StmtTree.Block f n x) fs) (block-stmt xs s' (place_block lines q items))) (
+        read-stmt s gs st p v.0 (λ k b. same k (starts-not-else k b) ∙ block-statement (here lines p) k f n xs fs b)
+        before read-block items f n (add_statement xs s') fs (after_stmt s' gs) q v.1 (λ k h. stmt-ends (here lines q) k s' gs h)
+        )
+        )
         )

@@ -33,12 +33,12 @@ abbrev mutual
   begun_stmt (StmtTree.Do f n s c) k = node_with k (max (begun_stmt s (k - 1)) (begun c (k - (width_stmt s + 3))))
   begun_stmt (StmtTree.For f n start test next s) k =
       node_with k (
-        max (begun_start start (k - 2)) (
-          max (begun_option test (k - (width_start start + 2))) (
-            max (begun_option next (k - (width_start start + width_option test + 3)))
-            (begun_stmt s (k - (width_start start + width_option test + width_option next + 4)))
-          )
-        )
+      max (begun_start start (k - 2)) (
+      max (begun_option test (k - (width_start start + 2))) (
+      max (begun_option next (k - (width_start start + width_option test + 3)))
+      (begun_stmt s (k - (width_start start + width_option test + width_option next + 4)))
+      )
+      )
       )
   begun_stmt (StmtTree.Break f n) k = node_with k 0
   begun_stmt (StmtTree.Continue f n) k = node_with k 0
@@ -78,10 +78,10 @@ begun_files (d ∷ ds) k = max (begun_file d k) (begun_files ds (k - (width_file
 abbrev pub begun_item : ItemTree → (k : ℕ) → ℕ
 begun_item (ItemTree.Function f n fixed s stars name a ps body) k =
     node_with k (
-      max (begun_spec s (k - width_static fixed)) (
-        max (begun_function stars ps (k - (width_static fixed + width_spec s)))
-        (begun_stmt body (k - (width_static fixed + width_spec s + stars + width_params ps + 3)))
-      )
+    max (begun_spec s (k - width_static fixed)) (
+    max (begun_function stars ps (k - (width_static fixed + width_spec s)))
+    (begun_stmt body (k - (width_static fixed + width_spec s + stars + width_params ps + 3)))
+    )
     )
 begun_item (ItemTree.Decls f n fixed s ds) k =
     node_with k (max (begun_spec s (k - width_static fixed)) (begun_files ds (k - (width_static fixed + width_spec s))))
