@@ -16,6 +16,7 @@ pub mod IntegerWords
 pub mod SpecSteps
 pub mod Through
 pub mod ProgramStates
+pub mod ProgramParts
 pub mod ProgramMachine
 pub mod ProgramRuns
 pub mod ProgramInits

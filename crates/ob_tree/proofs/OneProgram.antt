@@ -15,7 +15,8 @@ use Rattle.ob_tree.specs.Places.{here, place_spec, width_spec}
 use Rattle.ob_tree.specs.ProgramPlaces.{width_static, width_param, width_params, width_item, place_list, place_params, place_files, place_block, place_item, place_program, PlacedProgram}
 use Rattle.ob_tree.proofs.SpecSteps.{length-stars}
 use Rattle.ob_tree.proofs.ProgramStates.{Definition, InBody, InBlock, Outer, Heading, Declaration, State, Items, Declare, Closed, Begin, Done}
-use Rattle.ob_tree.proofs.ProgramMachine.{are_all_named, are_named, begin_declaration, begin_body, step, run, finish}
+use Rattle.ob_tree.proofs.ProgramParts.{are_all_named, are_named}
+use Rattle.ob_tree.proofs.ProgramMachine.{begin_declaration, begin_body, step, run, finish}
 use Rattle.ob_tree.proofs.ProgramRuns.{Reads, nothing, token, ◌before◌, counted, respelled, shifted, restart}
 use Rattle.ob_tree.proofs.ProgramNames.{named, MayDeclare, read-function, StartsName, stars-first, name-starts, tagged, read-names}
 use Rattle.ob_tree.proofs.ProgramDeclarations.{BeginsDeclaration, read-head}

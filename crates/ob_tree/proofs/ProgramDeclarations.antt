@@ -17,7 +17,8 @@ use Rattle.ob_tree.specs.ProgramPlaces.{width_static, width_local, place_local, 
 use Rattle.ob_tree.proofs.Machine as expr
 use Rattle.ob_tree.proofs.FirstTokens.{first-spec, BeginsSpec}
 use Rattle.ob_tree.proofs.ProgramStates.{Frame, InBlock, Owner, Inner, Start, Heading, ForDeclaration, ForStart, ForTest, State, Specifying, Optional, Begin, ForOpen}
-use Rattle.ob_tree.proofs.ProgramMachine.{add_local, objects, heading, optional, begin_declaration, begins_declaration, end_declaration, step}
+use Rattle.ob_tree.proofs.ProgramParts.{add_local, objects}
+use Rattle.ob_tree.proofs.ProgramMachine.{heading, optional, begin_declaration, begins_declaration, end_declaration, step}
 use Rattle.ob_tree.proofs.ProgramRuns.{Reads, token, ◌before◌, counted, respelled, arrives, shifted, restart, read-spec}
 use Rattle.ob_tree.proofs.ProgramNames.{MayDeclare, read-names}
 

@@ -16,7 +16,8 @@ use Rattle.ob_tree.proofs.PlaceKeeps.{valid-place}
 use Rattle.ob_tree.proofs.Settled.{settled}
 use Rattle.ob_tree.proofs.SpecSteps.{append_dims, dims-end, dims-more}
 use Rattle.ob_tree.proofs.ProgramStates.{Head, OfName, OfParam, Target, Braces, Use, Statement, IfTest, WhileTest, DoTest, ForStart, ForTest, ForNext, Return, Length, Item, State, Dims, Optional, Reading, Init, AfterInit}
-use Rattle.ob_tree.proofs.ProgramMachine.{at_semi, at_close, at_bracket, at_brace, add_init, has_items, use_level, first_length, last_comma, used, optional_to, initialised, step}
+use Rattle.ob_tree.proofs.ProgramParts.{at_semi, at_close, at_bracket, at_brace, add_init, has_items}
+use Rattle.ob_tree.proofs.ProgramMachine.{use_level, first_length, last_comma, used, optional_to, initialised, step}
 use Rattle.ob_tree.proofs.ProgramRuns.{Reads, nothing, token, ◌before◌, counted, respelled, arrives, restart, read-expr, Ends, expr-ends, StartsExpr, first-expr}
 
 -- Where an expression may be left out, the token that it begins with is none that may stand in its place.

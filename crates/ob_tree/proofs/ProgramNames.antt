@@ -16,7 +16,8 @@ use Rattle.ob_tree.specs.ProgramPlaces.{width_file, place_params, place_file, pl
 use Rattle.ob_tree.proofs.Machine as expr
 use Rattle.ob_tree.proofs.FirstTokens.{FirstOf, first-more}
 use Rattle.ob_tree.proofs.ProgramStates.{Owner, Outer, Inner, Start, Heading, Declaration, Declarator, OfName, Target, ForDeclaration, State, Specifying, Declare, Dims, Init, Params, Closed}
-use Rattle.ob_tree.proofs.ProgramMachine.{add_name, is_tagged, has_lengths, declares_tag, bare, next_name, end_declaration, parameters, step}
+use Rattle.ob_tree.proofs.ProgramParts.{add_name, is_tagged, has_lengths, declares_tag, bare}
+use Rattle.ob_tree.proofs.ProgramMachine.{next_name, end_declaration, parameters, step}
 use Rattle.ob_tree.proofs.ProgramRuns.{Reads, token, ◌before◌, counted, respelled, arrives, restart, Ends, all-stars}
 use Rattle.ob_tree.proofs.ProgramInits.{read-dims, read-open-dims, after_init, init-ends, read-init}
 use Rattle.ob_tree.proofs.ProgramParams.{read-params}

@@ -17,7 +17,8 @@ use Rattle.ob_tree.specs.ProgramPlaces.{width_param, width_params, name_place, p
 use Rattle.ob_tree.proofs.Machine as expr
 use Rattle.ob_tree.proofs.FirstTokens.{FirstOf, first-more, first-spec, BeginsSpec}
 use Rattle.ob_tree.proofs.ProgramStates.{Declarator, Listing, OfParam, ForParam, State, Specifying, Dims, Params, NextParam, Param, Closed}
-use Rattle.ob_tree.proofs.ProgramMachine.{add_param, params_of, next_param, step}
+use Rattle.ob_tree.proofs.ProgramParts.{add_param, params_of}
+use Rattle.ob_tree.proofs.ProgramMachine.{next_param, step}
 use Rattle.ob_tree.proofs.ProgramRuns.{Reads, nothing, token, ◌before◌, counted, respelled, arrives, shifted, restart, read-spec, spec-ends, EndsSpec, all-stars}
 use Rattle.ob_tree.proofs.ProgramInits.{read-open-dims}
 

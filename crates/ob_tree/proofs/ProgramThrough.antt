@@ -17,7 +17,8 @@ use Rattle.ob_tree.specs.ProgramPlaces.{width_option, width_local, width_start, 
 use Rattle.ob_tree.proofs.Machine as expr
 use Rattle.ob_tree.proofs.PlaceKeeps.{valid-place}
 use Rattle.ob_tree.proofs.ProgramStates.{Frame, InBlock, InIf, InElse, InWhile, InDo, InFor, Inner, Use, Statement, IfTest, WhileTest, DoTest, ForStart, ForTest, ForNext, Return, State, Optional, Reading, Begin, Opening, ForWord, ForOpen, Semi, Done}
-use Rattle.ob_tree.proofs.ProgramMachine.{use_level, used, add_statement, add_local, begins_declaration, begin_declaration, statement, statement_word, block_item, to_else, reduce, after_whole, done, step}
+use Rattle.ob_tree.proofs.ProgramParts.{add_statement, add_local}
+use Rattle.ob_tree.proofs.ProgramMachine.{use_level, used, begins_declaration, begin_declaration, statement, statement_word, block_item, to_else, reduce, after_whole, done, step}
 use Rattle.ob_tree.proofs.ProgramRuns.{Reads, token, ◌before◌, counted, respelled, arrives, shifted, restart, read-expr, expr-ends, StartsExpr, first-expr}
 use Rattle.ob_tree.proofs.ProgramInits.{optional-starts, any-level, read-option, option-ends}
 use Rattle.ob_tree.proofs.ProgramDeclarations.{BeginsDeclaration, read-local, read-for-local}
