@@ -7,3 +7,4 @@ pub mod Adding
 pub mod Kept
 pub mod Sound
 pub mod SoundAfter
+pub mod SoundSpecs
