@@ -8,3 +8,6 @@ pub mod Kept
 pub mod Sound
 pub mod SoundAfter
 pub mod SoundSpecs
+pub mod Filling
+pub mod Fills
+pub mod Complete

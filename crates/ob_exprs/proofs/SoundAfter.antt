@@ -35,7 +35,7 @@ right-most Infix.Comma = omega arith
 right-most (Infix.Assign s) = omega arith
 right-most (Infix.Binary s) = omega (arith, binary-most s)
 
-level-most : (e : ExprTree) → level_of e ≤ 16
+pub level-most : (e : ExprTree) → level_of e ≤ 16
 level-most (ExprTree.Step m false down e) = omega arith
 level-most (ExprTree.Step m true down e) = omega arith
 level-most (ExprTree.Join m op l r) = omega (arith, infix-most op)
