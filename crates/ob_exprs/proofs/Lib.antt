@@ -11,3 +11,4 @@ pub mod SoundSpecs
 pub mod Filling
 pub mod Fills
 pub mod Complete
+pub mod States
