@@ -7,3 +7,8 @@ pub mod Adding
 pub mod Kept
 pub mod Sound
 pub mod SoundAfter
+pub mod SoundSpecs
+pub mod Filling
+pub mod Fills
+pub mod Complete
+pub mod States

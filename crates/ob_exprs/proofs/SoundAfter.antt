@@ -23,7 +23,7 @@ use Rattle.ob_exprs.proofs.Kept.{top-most, Kept, reduce-kept}
 use Rattle.ob_exprs.proofs.Sound.{Good, name-of, spelled-of, cond-good, operand-good, specifier-good, opened-good, sized-good, size-opened-good, called-good, select-good}
 
 -- tokens in other groups
-last : (a b c : List TokenKind) → a ++ (b ++ c) ≡ (a ++ b) ++ c
+pub last : (a b c : List TokenKind) → a ++ (b ++ c) ≡ (a ++ b) ++ c
 last a b c = sym (append_assoc a b c)
 
 lt-true : (a b : ℕ) → nat_lt a b ≡ true → a < b
@@ -35,7 +35,7 @@ right-most Infix.Comma = omega arith
 right-most (Infix.Assign s) = omega arith
 right-most (Infix.Binary s) = omega (arith, binary-most s)
 
-level-most : (e : ExprTree) → level_of e ≤ 16
+pub level-most : (e : ExprTree) → level_of e ≤ 16
 level-most (ExprTree.Step m false down e) = omega arith
 level-most (ExprTree.Step m true down e) = omega arith
 level-most (ExprTree.Join m op l r) = omega (arith, infix-most op)
