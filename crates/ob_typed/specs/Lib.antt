@@ -1,5 +1,6 @@
 pub mod TypedTree
 pub mod TypedView
+pub mod ProgramView
 pub mod Faults
 pub mod Scopes
 pub mod TypeTests
