@@ -19,3 +19,5 @@ pub mod Valid
 pub mod Places
 pub mod Paths
 pub mod Fronts
+pub mod Types
+pub mod TypeView
