@@ -15,3 +15,4 @@ pub mod IntegerWords
 pub mod SpecSteps
 pub mod Through
 pub mod OneTree
+pub mod Readings

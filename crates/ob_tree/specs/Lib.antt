@@ -21,3 +21,4 @@ pub mod Paths
 pub mod Fronts
 pub mod Types
 pub mod TypeView
+pub mod Answers
