@@ -12,3 +12,4 @@ pub mod Filling
 pub mod Fills
 pub mod Complete
 pub mod States
+pub mod Exact
