@@ -1,16 +1,17 @@
 -- What the machine answers is what the grammar says.
-use Rattle.std.proofs.Common.{◌≡◌, ℕ, ◌+◌, ◌≤◌, inl, inr, ◌⊎◌, List, [], ◌∷◌, ◌++◌, length, take, Option, Some, None, refl, sym, ◌∙◌, ap, subst, arith, append_assoc, append-nil}
+use Rattle.std.proofs.Common.{◌≡◌, ℕ, ◌+◌, ◌≤◌, inl, inr, List, [], ◌∷◌, ◌++◌, length, take, Option, Some, None, refl, sym, ◌∙◌, ap, subst, arith, append_assoc, append-nil}
 use Rattle.std.specs.List.{All}
 use Rattle.std.proofs.lemmas.List.Elements.{All-head, All-tail}
 use Rattle.std.proofs.Math.Seq.{take-append_seam}
 use Rattle.ob_tree.specs.declared.tokens.TokenKind.{TokenKind}
 use Rattle.ob_tree.specs.Trees.{ExprTree, SpecTree}
 use Rattle.ob_tree.specs.Spelling.{spell, spell_spec}
-use Rattle.ob_tree.specs.Valid.{Valid, ValidSpec, IsOf, IsOfSource}
+use Rattle.ob_tree.specs.Valid.{ValidSpec, IsOf, IsOfSource}
 use Rattle.ob_tree.specs.Places.{here, place, place_spec, PlacedExpr, PlacedSpec}
-use Rattle.ob_tree.specs.Paths.{begun, begun_spec, height, height_spec}
-use Rattle.ob_tree.specs.Fronts.{Begins, BeginsExpr, BeginsSpec, IsExpr, IsSpec, within, any}
-use Rattle.ob_tree.proofs.Machine.{Frame, State, Operand, Open, Size, SizeOpen, Called, Select, After, Specifier, StructWord, Members, Declare, Dims, AfterSpec, reduce, step, step_if, run, whole_of, finish, spec_of, finish_spec}
+use Rattle.ob_tree.specs.Paths.{begun, begun_spec, height}
+use Rattle.ob_tree.specs.Fronts.{BeginsExpr, BeginsSpec, IsExpr, IsSpec, within, any}
+use Rattle.ob_tree.proofs.Frames.{Frame, State, Operand, After, Specifier, AfterSpec, reduce}
+use Rattle.ob_tree.proofs.Machine.{step, step_if, run, whole_of, finish, finish_spec}
 use Rattle.ob_tree.proofs.Readings.{Reads}
 use Rattle.ob_tree.proofs.Runs.{run-append, run-none}
 use Rattle.ob_tree.proofs.Settled.{settled}

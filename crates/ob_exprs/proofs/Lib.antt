@@ -1,6 +1,7 @@
 pub mod Begun
 pub mod Heights
 pub mod Within
+pub mod ReachParts
 pub mod Reach
 pub mod Shapes
 pub mod Adding

@@ -5,6 +5,7 @@ pub mod Lists
 pub mod ProgramRows
 pub mod Rows
 pub mod Examples
+pub mod Frames
 pub mod Machine
 pub mod PlaceKeeps
 pub mod Settled
