@@ -10,7 +10,7 @@ use Rattle.ob_tree.specs.Trees.{Mark, Infix, ExprTree, ExprTrees, TypeTree, Spec
 use Rattle.ob_tree.specs.Levels.{binary_level, is_assign, is_unary, infix_level, left_level, right_level, level_of, mark_of}
 use Rattle.ob_tree.specs.Integers.{is_integer}
 use Rattle.ob_tree.specs.Places.{here}
-use Rattle.ob_tree.proofs.Frames.{After, AfterSpec, Body, Called, Declare, Dims, Frame, Head, InCall, InCast, InElse, InIndex, InJoin, InLength, InParen, InSize, InStep, InStruct, InThen, InType, InUnary, Line, Members, OfMember, OfType, Open, Operand, Select, Size, SizeOpen, Specifier, State, StructWord, add_argument, add_dim, add_member, add_obj, at_sign, reduce, top_hole}
+pub use Rattle.ob_tree.proofs.Frames.{Body, Line, Head, OfType, OfMember, Frame, InParen, InIndex, InCall, InStep, InUnary, InSize, InCast, InJoin, InThen, InElse, InLength, InType, InStruct, State, Operand, Open, Size, SizeOpen, Called, Select, After, Specifier, StructWord, Members, Declare, Dims, AfterSpec, no_level, hole, grip, top_hole, close, reduce, add_argument, add_dim, add_obj, add_member, at_sign}
 
 -- A specifier comes.
 abbrev pub is_spec_word : Keyword → Bool
