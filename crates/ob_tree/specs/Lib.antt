@@ -27,3 +27,4 @@ pub mod ProgramValid
 pub mod ProgramPlaces
 pub mod ProgramPaths
 pub mod ProgramFronts
+pub mod Answers
