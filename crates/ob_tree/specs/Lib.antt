@@ -13,3 +13,5 @@ pub mod Spelling
 pub mod ProgramSpelling
 pub mod ExpressionView
 pub mod ProgramView
+pub mod Types
+pub mod TypeView

@@ -5,13 +5,14 @@
 
 pub use constants::{Base, Suffix};
 pub use expressions::{Dim, Expr, ExprNode, Init, MemberDecl, ObjDecl, Spec, SpecNode, TypeName};
-pub use faults::{LexFault, LexKind};
+pub use faults::{LexFault, LexKind, SourceFault, SyntaxFault, SyntaxKind, TypeFault, TypeKind};
 pub use first::{First, FirstFault, law_first_text, parse_first};
 pub use program_spelling::spell;
 pub use programs::{
     BlockItem, FileDecl, ForStart, Item, ItemNode, Local, Param, Params, Program, Stmt, StmtNode,
 };
 pub use tokens::{Keyword, Sign, Span, Token, TokenKind};
+pub use types::{CType, MemberRow, StructRow, Structs};
 
 mod constant;
 mod constants;
@@ -25,3 +26,4 @@ mod statement;
 mod sum;
 mod text;
 mod tokens;
+mod types;
