@@ -1,7 +1,7 @@
 -- Expressions (C99 6.5). Operands are evaluated from left to right. An expression that designates an object, or points to one,
 -- is read as a base and a displacement in bytes, an exact number. A displacement that lies too far out ends the run when it is
 -- formed, before the tests of an access or a move.
-use Rattle.std.specs.Prelude.{ℕ, ◌+◌, Bool, true, false, ℤ, pos, ◌+ℤ◌, List, [], ◌∷◌, Result, Ok, Err, slice_index_or, if◌then◌else◌}
+use Rattle.std.specs.Prelude.{ℕ, ◌+◌, ◌*◌, Bool, true, false, ℤ, pos, ◌+ℤ◌, List, [], ◌∷◌, Result, Ok, Err, slice_index_or, if◌then◌else◌}
 use Rattle.ob_words.specs.declared.types.BinOp.{BinOp}
 use Rattle.ob_words.specs.declared.types.DivideByZero.{DivideByZero}
 use Rattle.ob_words.specs.declared.types.IntType.{IntType}
@@ -17,11 +17,11 @@ use Rattle.ob_typed.specs.declared.names.Builtin.TheVariants as builtin
 use Rattle.ob_typed.specs.TypedTree.{TypedExpr, TypedExprs, TypedLean, TypedNode, TypedPlace}
 use Rattle.ob_typed.specs.TypedTree.TypedExpr.{Typed}
 use Rattle.ob_typed.specs.TypedTree.TypedExprs.{NoArguments, Argument}
-use Rattle.ob_typed.specs.TypedTree.TypedLean as at
-use Rattle.ob_typed.specs.TypedTree.TypedNode as node
+use Rattle.ob_typed.specs.TypedTree.{TypedLean as at}
+use Rattle.ob_typed.specs.TypedTree.{TypedNode as node}
 use Rattle.ob_typed.specs.TypedTree.TypedPlace.{Place}
 use Rattle.ob_meaning.specs.Accesses.{load, store}
-use Rattle.ob_meaning.specs.Heap.{allocated, exited, free, read_byte, size_of, write_byte}
+use Rattle.ob_meaning.specs.Heap.{allocated, exited, free, read_byte, byte_count, write_byte}
 use Rattle.ob_meaning.specs.Pointers.{compared, formed, move, stride, subtracted}
 use Rattle.ob_meaning.specs.Scalars.{Scalar, scalars}
 use Rattle.ob_meaning.specs.Setup.{Below, Setup, first_local, kind_of, number_type}
@@ -53,8 +53,12 @@ arithmetic_in op t x y w = arithmetic op t (converted t x) (right_operand (shift
 
 -- goes on in one of two ways
 abbrev pub choose : {A : Type 0} → Bool → (World → Run A) → (World → Run A) → World → Run A
-choose true yes other w = yes w
-choose false yes other w = other w
+choose {A} true run other w = run w
+choose {A} false run other w = other w
+
+-- 1 or 0, by whether a value is other than 0 and null
+abbrev pub tested : Run Value → Run Value
+tested r = bind r (λ x w. go (truth (is_true x)) w)
 
 -- the older value for a step behind its operand, else the newer one (6.5.2.4, 6.5.3.1)
 abbrev pub older_if : Bool → Value → Value → Value
@@ -106,9 +110,9 @@ argument vs i = slice_index_or vs i nothing
 abbrev pub built_in : Setup → ℕ → Builtin → List Value → World → Run Value
 built_in u line builtin.GetChar vs w = read_byte u.input_end w.input w
 built_in u line builtin.PutChar vs w = write_byte (argument vs 0) w
-built_in u line builtin.Malloc vs w = allocated u.settings.heap (size_of (argument vs 0)) w
+built_in u line builtin.Malloc vs w = allocated u.settings.heap (byte_count (argument vs 0)) w
 built_in u line builtin.Calloc vs w =
-    allocated u.settings.heap (size_of (argument vs 0) * size_of (argument vs 1)) w
+    allocated u.settings.heap (byte_count (argument vs 0) * byte_count (argument vs 1)) w
 built_in u line builtin.Free vs w = free line (argument vs 0) w
 built_in u line builtin.Exit vs w = exited (argument vs 0) w
 
@@ -117,14 +121,14 @@ built_in u line builtin.Exit vs w = exited (argument vs 0) w
 abbrev mutual
   -- the value of an expression
   pub value : Setup → Below → TypedExpr → World → Run Value
-  value u m (Typed line ty node) w = node_value u m line node w
+  value u m (Typed line ty what) w = node_value u m line what w
 
   -- The value of a node at a line. Its accesses, moves and comparisons are told with that line.
   pub node_value : Setup → Below → ℕ → TypedNode → World → Run Value
   node_value u m line (node.Num n) w = go (value_of.Num n) w
   node_value u m line node.Null w = go value_of.Null w
   -- what is loaded from a place
-  node_value u m line (node.Read (Place at ty lean)) w = bind (based u m lean w) (λ b w1. load_based u ty line b w1)
+  node_value u m line (node.Read (Place own_line ty lean)) w = bind (based u m lean w) (λ b w1. load_based u ty line b w1)
   -- a pointer to a place, an array that decays, a pointer sum: the base is moved once (6.3.2.1, 6.5.3.2, 6.5.6)
   node_value u m line (node.Lean lean) w =
       bind (based u m lean w) (λ b w1. move u.settings.away line b.base b.displacement w1)
@@ -142,23 +146,23 @@ abbrev mutual
       bind (value u m a w) (λ x w1. bind (value u m b w1) (λ y w2. subtracted size line x y w2))
   -- `&&`, `||`, `?:` and `,` (6.5.13 to 6.5.15, 6.5.17)
   node_value u m line (node.And a b) w =
-      bind (value u m a w) (λ x w1. choose (is_true x) (test u m b) (go (truth false)) w1)
+      bind (value u m a w) (λ x w1. choose (is_true x) (λ w2. tested (value u m b w2)) (go (truth false)) w1)
   node_value u m line (node.Or a b) w =
-      bind (value u m a w) (λ x w1. choose (is_true x) (go (truth true)) (test u m b) w1)
+      bind (value u m a w) (λ x w1. choose (is_true x) (go (truth true)) (λ w2. tested (value u m b w2)) w1)
   node_value u m line (node.Cond a b c) w =
       bind (value u m a w) (λ x w1. choose (is_true x) (value u m b) (value u m c) w1)
   node_value u m line (node.Comma a b) w = bind (value u m a w) (λ x w1. value u m b w1)
   -- assignments (6.5.16): the place is evaluated first; the value is the one that is stored
-  node_value u m line (node.Assign (Place at ty lean) e) w =
+  node_value u m line (node.Assign (Place own_line ty lean) e) w =
       bind (based u m lean w) (λ b w1. bind (value u m e w1) (λ v w2. store_based u ty line b v w2))
   -- the place is evaluated and loaded first
-  node_value u m line (node.Update op t post (Place at ty lean) e) w =
+  node_value u m line (node.Update op t post (Place own_line ty lean) e) w =
       bind (based u m lean w) (λ b w1.
           bind (load_based u ty line b w1) (λ x w2.
               bind (value u m e w2) (λ y w3.
                   bind (arithmetic_in op t x y w3) (λ z w4.
                       bind (store_based u ty line b (converted (number_type ty) z) w4) (λ v w5. go (older_if post x v) w5)))))
-  node_value u m line (node.PtrUpdate scale minus post (Place at ty lean) e) w =
+  node_value u m line (node.PtrUpdate scale minus post (Place own_line ty lean) e) w =
       bind (based u m lean w) (λ b w1.
           bind (load_based u ty line b w1) (λ x w2.
               bind (value u m e w2) (λ n w3.
@@ -166,17 +170,13 @@ abbrev mutual
                       bind (move u.settings.away line x d w4) (λ p w5.
                           bind (store_based u ty line b p w5) (λ v w6. go (older_if post x v) w6))))))
   -- the assignment of a structure (6.5.16.1): both places are evaluated first
-  node_value u m line (node.CopyStruct (Place at ty lean) (Place at2 ty2 lean2)) w =
+  node_value u m line (node.CopyStruct (Place own_line ty lean) (Place from_line from_type from_lean)) w =
       bind (based u m lean w) (λ to w1.
-          bind (based u m lean2 w1) (λ from w2. copy_scalars u line to from (scalars u.program.structs ty) w2))
+          bind (based u m from_lean w1) (λ from w2. copy_scalars u line to from (scalars u.program.structs ty) w2))
   -- calls (6.5.2.2): the arguments are evaluated in order, and the call takes a step
   node_value u m line (node.Call f es) w = bind (values u m es w) (λ vs w1. step w1 (λ w2. m.call f vs w2))
-  node_value u m line (node.Builtin f es) w =
+  node_value u m line (node.CallBuiltin f es) w =
       bind (values u m es w) (λ vs w1. step w1 (λ w2. built_in u line f vs w2))
-
-  -- 1 or 0, by whether the value is other than 0 and null
-  pub test : Setup → Below → TypedExpr → World → Run Value
-  test u m e w = bind (value u m e w) (λ x w1. go (truth (is_true x)) w1)
 
   -- the base and the displacement
   pub based : Setup → Below → TypedLean → World → Run Based

@@ -32,8 +32,8 @@ abbrev pub allocated : ℕ → ℕ → World → Run Value
 allocated heap n w = allocated_at (place_for w.heap heap n) n w
 
 -- the number of bytes that a `size_t` asks for
-abbrev pub size_of : Value → ℕ
-size_of v = unsigned_abs (convert ULong (number_of v))
+abbrev pub byte_count : Value → ℕ
+byte_count v = unsigned_abs (convert ULong (number_of v))
 
 -- ---- `free`
 

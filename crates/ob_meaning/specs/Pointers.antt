@@ -62,11 +62,15 @@ move away line p d w =
 
 -- ---- comparisons
 
--- two pointers are equal where both are null, or their objects and offsets agree
 abbrev pub is_null : Value → Bool
 is_null (value.Num n) = true
 is_null value.Null = true
 is_null (value.Ptr object offset) = false
+
+-- two pointers are equal where both are null, or their objects and offsets agree
+abbrev pub is_same : Value → Value → Bool
+is_same (value.Ptr object offset) (value.Ptr other place) = (object == other) && int_eq offset place
+is_same p q = is_null p && is_null q
 
 -- null counts as object 0 with offset 0
 abbrev pub object_of : Value → ℕ
@@ -78,9 +82,6 @@ abbrev pub offset_of : Value → ℤ
 offset_of (value.Num n) = pos 0
 offset_of value.Null = pos 0
 offset_of (value.Ptr object offset) = offset
-
-abbrev pub is_same : Value → Value → Bool
-is_same p q = (object_of p == object_of q) && int_eq (offset_of p) (offset_of q)
 
 -- pointers are in order of their objects, and then of their offsets
 abbrev pub is_before : Value → Value → Bool

@@ -12,9 +12,9 @@ use Rattle.ob_model.specs.declared.values.LoadKind.TheVariants.{Num, Ptr}
 use Rattle.ob_model.specs.declared.values.Value.{Value}
 use Rattle.ob_model.specs.Endings.{InputEnd}
 use Rattle.ob_tree.specs.Types.{PlainType}
-use Rattle.ob_tree.specs.Types.PlainType as type_of
+use Rattle.ob_tree.specs.Types.{PlainType as type_of}
 use Rattle.ob_typed.specs.TypedTree.{TypedExpr, TypedFunction, TypedProgram, TypedStmt}
-use Rattle.ob_typed.specs.TypedTree.TypedStmt as stmt
+use Rattle.ob_typed.specs.TypedTree.{TypedStmt as stmt}
 use Rattle.ob_meaning.specs.World.{Rule, vanish, kept, unlimited, World, Call, Run}
 
 pub record Setup : Type 0 where

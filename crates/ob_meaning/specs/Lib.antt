@@ -1,0 +1,14 @@
+pub mod Values
+pub mod Memory
+pub mod World
+pub mod Accesses
+pub mod Pointers
+pub mod Heap
+pub mod Sizes
+pub mod Setup
+pub mod Scalars
+pub mod Expressions
+pub mod Initialisers
+pub mod Statements
+pub mod Calls
+pub mod Runs
