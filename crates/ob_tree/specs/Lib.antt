@@ -15,3 +15,4 @@ pub mod ExpressionView
 pub mod ProgramView
 pub mod Types
 pub mod TypeView
+pub mod Sizes
