@@ -3,7 +3,7 @@
 -- stray access is told first. Then it vanishes: a store changes nothing, and a load takes the next manufactured value. Under
 -- the other rules it does so through null and where it is ill aligned; else it reaches a granule of the object's own, which is
 -- read and written as an access inside does, or one outside of the object.
-use Rattle.std.specs.Prelude.{ℕ, ◌+◌, Bool, true, false, ◌||◌, nat_lt, ℤ, ◌+ℤ◌, List, length, Option, Some, None, is_some, unwrap_or, if◌then◌else◌}
+use Rattle.std.specs.Prelude.{ℕ, Bool, true, false, ◌||◌, nat_lt, ℤ, ◌+ℤ◌, List, length, Option, Some, None, is_some, unwrap_or, if◌then◌else◌}
 use Rattle.ob_model.specs.declared.endings.Ending.TheVariants.{Far}
 use Rattle.ob_model.specs.declared.strays.Act.{Act}
 use Rattle.ob_model.specs.declared.strays.Act.TheVariants as act
@@ -12,7 +12,7 @@ use Rattle.ob_model.specs.declared.values.Value.{Value}
 use Rattle.ob_model.specs.declared.values.Value.TheVariants as value
 use Rattle.ob_model.specs.Accesses.{Reach, bytes_of_kind, granule, is_far, reach}
 use Rattle.ob_model.specs.Accesses as reaches
-use Rattle.ob_model.specs.Bounded.{Listed, after_load, after_store, dropped, listed_cell, put_first}
+use Rattle.ob_model.specs.Bounded.{after_load, after_store, dropped, listed_cell, put_first}
 use Rattle.ob_model.specs.Cells.{unset}
 use Rattle.ob_model.specs.Endings.{plain, dead, dropped as too_many}
 use Rattle.ob_model.specs.Manufactured.{place_after}

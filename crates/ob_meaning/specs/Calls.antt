@@ -2,7 +2,6 @@
 -- its return (6.2.4). Each starts as zero bytes, and a parameter takes its argument. A call ends the run where the allowances
 -- of the calls in progress and its own are more than the stack has.
 use Rattle.std.specs.Prelude.{ℕ, zero, suc, ◌+◌, nat_lt, pos, List, [], ◌∷◌, ◌++◌, length}
-use Rattle.ob_words.specs.declared.types.IntType.{IntType}
 use Rattle.ob_model.specs.declared.endings.Ending.TheVariants.{Stack, Steps}
 use Rattle.ob_model.specs.declared.objects.Sort.TheVariants.{Automatic}
 use Rattle.ob_model.specs.declared.values.LoadKind.{LoadKind}
@@ -12,11 +11,10 @@ use Rattle.ob_model.specs.declared.values.Value.TheVariants as value_of
 use Rattle.ob_model.specs.Cells.{zeros}
 use Rattle.ob_model.specs.Endings.{plain}
 use Rattle.ob_tree.specs.Types.{PlainType, PlainStructs}
-use Rattle.ob_typed.specs.TypedTree.{TypedFunction}
 use Rattle.ob_meaning.specs.Expressions.{choose}
 use Rattle.ob_meaning.specs.Memory.{Object, is_among, new_object, next_number, with_own}
-use Rattle.ob_meaning.specs.Setup.{Below, Flow, next, broke, continued, gave, Loop, Setup, function_at, kind_of}
-use Rattle.ob_meaning.specs.Sizes.{allowance, size}
+use Rattle.ob_meaning.specs.Setup.{Below, Flow, next, broke, continued, gave, Setup, function_at, kind_of}
+use Rattle.ob_tree.specs.Sizes.{allowance, size}
 use Rattle.ob_meaning.specs.Statements.{exec, turns}
 use Rattle.ob_meaning.specs.Values.{write_cell}
 use Rattle.ob_meaning.specs.World.{World, Call, Run, stop, go, without}

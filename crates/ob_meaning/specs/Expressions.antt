@@ -1,7 +1,7 @@
 -- Expressions (C99 6.5). Operands are evaluated from left to right. An expression that designates an object, or points to one,
 -- is read as a base and a displacement in bytes, an exact number. A displacement that lies too far out ends the run when it is
 -- formed, before the tests of an access or a move.
-use Rattle.std.specs.Prelude.{ℕ, ◌+◌, ◌*◌, Bool, true, false, ℤ, pos, ◌+ℤ◌, List, [], ◌∷◌, Result, Ok, Err, slice_index_or, if◌then◌else◌}
+use Rattle.std.specs.Prelude.{ℕ, ◌+◌, ◌*◌, Bool, true, false, ℤ, pos, ◌+ℤ◌, List, [], ◌∷◌, Result, Ok, Err, slice_index_or}
 use Rattle.ob_words.specs.declared.types.BinOp.{BinOp}
 use Rattle.ob_words.specs.declared.types.DivideByZero.{DivideByZero}
 use Rattle.ob_words.specs.declared.types.IntType.{IntType}
@@ -14,7 +14,7 @@ use Rattle.ob_model.specs.Endings.{plain}
 use Rattle.ob_tree.specs.Types.{PlainType}
 use Rattle.ob_typed.specs.declared.names.Builtin.{Builtin}
 use Rattle.ob_typed.specs.declared.names.Builtin.TheVariants as builtin
-use Rattle.ob_typed.specs.TypedTree.{TypedExpr, TypedExprs, TypedLean, TypedNode, TypedPlace}
+use Rattle.ob_typed.specs.TypedTree.{TypedExpr, TypedExprs, TypedLean, TypedNode}
 use Rattle.ob_typed.specs.TypedTree.TypedExpr.{Typed}
 use Rattle.ob_typed.specs.TypedTree.TypedExprs.{NoArguments, Argument}
 use Rattle.ob_typed.specs.TypedTree.{TypedLean as at}
@@ -23,7 +23,7 @@ use Rattle.ob_typed.specs.TypedTree.TypedPlace.{Place}
 use Rattle.ob_meaning.specs.Accesses.{load, store}
 use Rattle.ob_meaning.specs.Heap.{allocated, exited, free, read_byte, byte_count, write_byte}
 use Rattle.ob_meaning.specs.Pointers.{compared, formed, move, stride, subtracted}
-use Rattle.ob_meaning.specs.Scalars.{Scalar, scalars}
+use Rattle.ob_meaning.specs.Scalars.{Scalar, scalars_of}
 use Rattle.ob_meaning.specs.Setup.{Below, Setup, first_local, kind_of, number_type}
 use Rattle.ob_meaning.specs.Values.{is_true, nothing, number_of, truth}
 use Rattle.ob_meaning.specs.World.{World, Run, stop, go, bind, step}
@@ -172,7 +172,7 @@ abbrev mutual
   -- the assignment of a structure (6.5.16.1): both places are evaluated first
   node_value u m line (node.CopyStruct (Place own_line ty lean) (Place from_line from_type from_lean)) w =
       bind (based u m lean w) (λ to w1.
-          bind (based u m from_lean w1) (λ from w2. copy_scalars u line to from (scalars u.program.structs ty) w2))
+          bind (based u m from_lean w1) (λ from w2. copy_scalars u line to from (scalars_of u.program.structs ty) w2))
   -- calls (6.5.2.2): the arguments are evaluated in order, and the call takes a step
   node_value u m line (node.Call f es) w = bind (values u m es w) (λ vs w1. step w1 (λ w2. m.call f vs w2))
   node_value u m line (node.CallBuiltin f es) w =

@@ -1,6 +1,6 @@
 -- The objects of the heap (C99 7.20.3), input and output (7.19.7), and `exit` (7.20.4.3). A new object lies at the first place
 -- that fits; its place decides whether there is room, and nothing else.
-use Rattle.std.specs.Prelude.{ℕ, ◌+◌, ◌*◌, ◌%◌, ◌==◌, ◌&&◌, Bool, true, false, ℤ, pos, negsuc, unsigned_abs, List, [], ◌∷◌, ◌++◌, Option, Some, None, if◌then◌else◌}
+use Rattle.std.specs.Prelude.{ℕ, ◌==◌, ◌&&◌, Bool, true, false, pos, negsuc, unsigned_abs, List, [], ◌∷◌, ◌++◌, Option, Some, None, if◌then◌else◌}
 use Rattle.std.specs.Ordering.{int_eq}
 use Rattle.ob_words.specs.declared.types.IntType.TheVariants.{Int, UChar, ULong}
 use Rattle.ob_words.specs.Conversion.{convert}

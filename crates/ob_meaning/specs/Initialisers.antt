@@ -5,14 +5,14 @@ use Rattle.ob_model.specs.declared.values.Value.{Value}
 use Rattle.ob_model.specs.declared.values.Value.TheVariants as value_of
 use Rattle.ob_tree.specs.Types.{PlainType}
 use Rattle.ob_tree.specs.Types.PlainType.{Void, Int, Pointer, Array, Struct}
-use Rattle.ob_typed.specs.TypedTree.{TypedExpr, TypedInit, TypedInits, TypedPlace}
+use Rattle.ob_typed.specs.TypedTree.{TypedInit, TypedInits}
 use Rattle.ob_typed.specs.TypedTree.TypedExpr.{Typed}
 use Rattle.ob_typed.specs.TypedTree.{TypedInit as init}
 use Rattle.ob_typed.specs.TypedTree.TypedInits.{NoItems, Item}
 use Rattle.ob_typed.specs.TypedTree.TypedPlace.{Place}
 use Rattle.ob_meaning.specs.Expressions.{Based, at_object, based, converted, copy_scalars, further, store_based, value}
 use Rattle.ob_meaning.specs.Memory.{with_wiped}
-use Rattle.ob_meaning.specs.Scalars.{Part, part_of, scalars}
+use Rattle.ob_meaning.specs.Scalars.{part_of, scalars_of}
 use Rattle.ob_meaning.specs.Setup.{Below, Setup, first_local, number_type, running}
 use Rattle.ob_meaning.specs.Values.{nothing}
 use Rattle.ob_meaning.specs.World.{World, Run, go, bind}
@@ -34,7 +34,7 @@ abbrev mutual
   initialise u m ty b (init.Chars cs) w = store_characters u (part_of u.program.structs ty 0).ty b cs 0 w
   initialise u m ty b (init.Items items) w = initialise_items u m ty b items 0 w
   initialise u m ty b (init.Copy (Place line t lean)) w =
-      bind (based u m lean w) (λ from w1. copy_scalars u line b from (scalars u.program.structs ty) w1)
+      bind (based u m lean w) (λ from w1. copy_scalars u line b from (scalars_of u.program.structs ty) w1)
 
   -- the items of a list, from element or member i on
   pub initialise_items : Setup → Below → PlainType → Based → TypedInits → ℕ → World → Run Value

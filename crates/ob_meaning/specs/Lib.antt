@@ -4,7 +4,6 @@ pub mod World
 pub mod Accesses
 pub mod Pointers
 pub mod Heap
-pub mod Sizes
 pub mod Setup
 pub mod Scalars
 pub mod Expressions
@@ -12,3 +11,4 @@ pub mod Initialisers
 pub mod Statements
 pub mod Calls
 pub mod Runs
+pub mod Trees

@@ -1,6 +1,6 @@
 -- The memory of a program: objects (C99 6.2.4), each with its own granules of eight bytes. Objects are numbered in order of
 -- making, from 1 on, and a number is never used again. No object has a place among others, so nothing lies beside it.
-use Rattle.std.specs.Prelude.{ℕ, ◌+◌, Bool, true, false, not, ◌&&◌, nat_le, nat_lt, ℤ, pos, negsuc, unsigned_abs, List, [], ◌∷◌, ◌++◌, length, replicate, slice_index_or, slice_set, if◌then◌else◌}
+use Rattle.std.specs.Prelude.{ℕ, ◌+◌, Bool, true, false, not, ◌&&◌, nat_le, nat_lt, ℤ, unsigned_abs, List, [], ◌∷◌, length, replicate, slice_index_or, slice_set}
 use Rattle.ob_model.specs.declared.objects.Sort.{Sort}
 use Rattle.ob_model.specs.declared.objects.Sort.TheVariants.{Static}
 use Rattle.ob_model.specs.declared.values.Value.{Value}

@@ -1,7 +1,7 @@
 -- Moving and comparing pointers (C99 6.5.6, 6.5.8 and 6.5.9). A pointer may leave its object and come back. Those that lie
 -- outside 0 to their object's size are kept in a list, of at most as many pairs as the settings say. Moving, ordering and
 -- subtracting a dead object's pointer uses it, and so does comparing it with a pointer that isn't null.
-use Rattle.std.specs.Prelude.{ℕ, ◌==◌, ◌&&◌, ◌||◌, not, nat_lt, Bool, true, false, ℤ, pos, ◌+ℤ◌, ◌-ℤ◌, ◌*ℤ◌, int_lt, int_div, List, [], ◌∷◌, ◌++◌, length, is_some, if◌then◌else◌}
+use Rattle.std.specs.Prelude.{ℕ, ◌==◌, ◌&&◌, ◌||◌, not, nat_lt, Bool, true, false, ℤ, pos, ◌+ℤ◌, ◌-ℤ◌, ◌*ℤ◌, int_lt, int_div, List, ◌∷◌, length, is_some, if◌then◌else◌}
 use Rattle.std.specs.List.{find}
 use Rattle.std.specs.Ordering.{int_eq}
 use Rattle.ob_words.specs.declared.types.IntType.TheVariants.{Long}

@@ -1,6 +1,6 @@
 -- Whole runs (C99 5.1.2.2.3, 6.7.8, 6.9). The static objects are made, `main` is called, and the run's outcome is how it ends,
 -- what it has written, its stray accesses, and the place in the cycle of manufactured values.
-use Rattle.std.specs.Prelude.{ℕ, zero, suc, ◌+◌, ◌/◌, pos, Bool, true, List, [], ◌∷◌, ◌++◌, map, take, drop, replicate, slice_set, Option, Some, None}
+use Rattle.std.specs.Prelude.{ℕ, zero, suc, ◌+◌, ◌/◌, pos, true, List, [], ◌∷◌, ◌++◌, map, take, drop, replicate, slice_set, Some, None}
 use Rattle.ob_model.specs.declared.endings.Ending.TheVariants.{Ended}
 use Rattle.ob_model.specs.declared.objects.Sort.TheVariants.{Static}
 use Rattle.ob_model.specs.declared.settings.RunSettings.{RunSettings}
@@ -14,8 +14,8 @@ use Rattle.ob_typed.specs.declared.statics.StaticPointer.{StaticPointer}
 use Rattle.ob_typed.specs.TypedTree.{PlainImage, TypedObject, TypedProgram}
 use Rattle.ob_meaning.specs.Calls.{below}
 use Rattle.ob_meaning.specs.Memory.{Object, no_object}
-use Rattle.ob_meaning.specs.Setup.{Below, Setup}
-use Rattle.ob_meaning.specs.Sizes.{size}
+use Rattle.ob_meaning.specs.Setup.{Setup}
+use Rattle.ob_tree.specs.Sizes.{size}
 use Rattle.ob_meaning.specs.Values.{Cell, number_of}
 use Rattle.ob_meaning.specs.World.{Rule, World, Run, stop, go, step}
 

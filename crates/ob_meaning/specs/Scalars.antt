@@ -1,32 +1,41 @@
--- What a type is made of (C99 6.2.5, 6.7.2.1): the parts of an array or a structure, and the scalars in it, each with its offset
--- in bytes.
-use Rattle.std.specs.Prelude.{ℕ, zero, suc, ◌+◌, ◌*◌, List, [], ◌∷◌, ◌++◌, length}
+-- What a type is made of (C99 6.2.5, 6.7.2.1): the elements or members of an array or a structure, and the scalars in it, which
+-- are the numbers and pointers, each with its offset in bytes.
+use Rattle.std.specs.Prelude.{ℕ, zero, suc, ◌+◌, ◌*◌, List, [], ◌∷◌, ◌++◌, length, Option, Some, None, slice_get}
 use Rattle.ob_model.specs.declared.values.LoadKind.{LoadKind}
-use Rattle.ob_tree.specs.Types.{PlainType, PlainMember, PlainStructs}
+use Rattle.ob_model.specs.declared.values.LoadKind.TheVariants.{Num, Ptr}
+use Rattle.ob_tree.specs.Sizes.{Layout, appended, laid, layout, next_offset, no_layout, size}
+use Rattle.ob_tree.specs.Types.{PlainType, PlainMember, PlainStruct, PlainStructs}
 use Rattle.ob_tree.specs.Types.PlainType.{Void, Int, Pointer, Array, Struct}
-use Rattle.ob_meaning.specs.Setup.{kind_of}
-use Rattle.ob_meaning.specs.Sizes.{size, align, rounded, members_of}
 
--- ---- parts
+-- ---- elements and members
 
 pub record Part : Type 0 where
   pub offset : ℕ
   pub ty : PlainType
 
--- a member of a structure, each of which lies at the least multiple of its alignment past the one before
-abbrev pub member_after : PlainStructs → ℕ → List PlainMember → ℕ → Part
-member_after structs end [] i = record { offset = end; ty = Void }
-member_after structs end (m ∷ ms) zero = record { offset = rounded end (align structs m.ty); ty = m.ty }
-member_after structs end (m ∷ ms) (suc i) =
-    member_after structs (rounded end (align structs m.ty) + size structs m.ty) ms i
+abbrev pub no_part : Part
+no_part = record { offset = 0; ty = Void }
 
--- element or member i
+-- the layout of a member's type
+abbrev pub member_layout : PlainStructs → PlainMember → Layout
+member_layout structs m = laid (layout structs m.ty)
+
+-- member i of some members, which follow others
+abbrev pub member_part : PlainStructs → Layout → List PlainMember → ℕ → Part
+member_part structs l [] i = no_part
+member_part structs l (m ∷ ms) zero = record { offset = next_offset l (member_layout structs m); ty = m.ty }
+member_part structs l (m ∷ ms) (suc i) = member_part structs (appended l (member_layout structs m)) ms i
+
+abbrev pub struct_part : PlainStructs → Option PlainStruct → ℕ → Part
+struct_part structs None i = no_part
+struct_part structs (Some r) i = member_part structs no_layout r.members i
+
 abbrev pub part_of : PlainStructs → PlainType → ℕ → Part
 part_of structs (Array t n) i = record { offset = i * size structs t; ty = t }
-part_of structs (Struct n) i = member_after structs 0 (members_of structs n) i
-part_of structs Void i = record { offset = 0; ty = Void }
-part_of structs (Int t) i = record { offset = 0; ty = Int t }
-part_of structs (Pointer t) i = record { offset = 0; ty = Pointer t }
+part_of structs (Struct number) i = struct_part structs (slice_get structs number) i
+part_of structs Void i = no_part
+part_of structs (Int t) i = no_part
+part_of structs (Pointer t) i = no_part
 
 -- ---- scalars
 
@@ -35,27 +44,36 @@ pub record Scalar : Type 0 where
   pub kind : LoadKind
 
 -- so many elements of a size from an offset on, each of which has some scalars
-abbrev pub repeated : (ℕ → List Scalar) → ℕ → ℕ → ℕ → List Scalar
-repeated each size zero offset = []
-repeated each size (suc n) offset = each offset ++ repeated each size n (offset + size)
+abbrev pub elements_scalars : (ℕ → List Scalar) → ℕ → ℕ → ℕ → List Scalar
+elements_scalars each bytes zero offset = []
+elements_scalars each bytes (suc n) offset = each offset ++ elements_scalars each bytes n (offset + bytes)
 
--- those of members, the first of which may begin at `end` from the offset
-abbrev pub members_scalars : (PlainType → ℕ → List Scalar) → PlainStructs → ℕ → List PlainMember → ℕ → List Scalar
-members_scalars each structs end [] offset = []
-members_scalars each structs end (m ∷ ms) offset =
-    each m.ty (offset + rounded end (align structs m.ty))
-    ++ members_scalars each structs (rounded end (align structs m.ty) + size structs m.ty) ms offset
+-- the scalars of a type from an offset on, where those of a structure are known by its number
+abbrev pub type_scalars : (known : ℕ → ℕ → List Scalar) → PlainStructs → PlainType → ℕ → List Scalar
+type_scalars known structs Void offset = []
+type_scalars known structs (Int t) offset = record { offset = offset; kind = Num t } ∷ []
+type_scalars known structs (Pointer t) offset = record { offset = offset; kind = Ptr } ∷ []
+type_scalars known structs (Array t n) offset =
+    elements_scalars (type_scalars known structs t) (size structs t) n offset
+type_scalars known structs (Struct number) offset = known number offset
 
--- The scalars of a type from an offset on. Structures are looked into so many deep; as none holds itself, no more than there
--- are structures.
-abbrev pub scalars_in : ℕ → PlainStructs → PlainType → ℕ → List Scalar
-scalars_in depth structs Void offset = []
-scalars_in depth structs (Int t) offset = record { offset = offset; kind = kind_of (Int t) } ∷ []
-scalars_in depth structs (Pointer t) offset = record { offset = offset; kind = kind_of (Pointer t) } ∷ []
-scalars_in depth structs (Array t n) offset = repeated (scalars_in depth structs t) (size structs t) n offset
-scalars_in zero structs (Struct n) offset = []
-scalars_in (suc depth) structs (Struct n) offset =
-    members_scalars (scalars_in depth structs) structs 0 (members_of structs n) offset
+-- those of some members, which follow others, in a structure at an offset
+abbrev pub members_scalars : (known : ℕ → ℕ → List Scalar) → PlainStructs → Layout → List PlainMember → ℕ → List Scalar
+members_scalars known structs l [] offset = []
+members_scalars known structs l (m ∷ ms) offset =
+    type_scalars known structs m.ty (offset + next_offset l (member_layout structs m))
+    ++ members_scalars known structs (appended l (member_layout structs m)) ms offset
 
-abbrev pub scalars : PlainStructs → PlainType → List Scalar
-scalars structs t = scalars_in (length structs) structs t 0
+abbrev pub row_scalars : (known : ℕ → ℕ → List Scalar) → PlainStructs → Option PlainStruct → ℕ → List Scalar
+row_scalars known structs None offset = []
+row_scalars known structs (Some r) offset = members_scalars known structs no_layout r.members offset
+
+-- those of a structure, where structures hold each other at most so many deep
+abbrev pub struct_scalars : (depth : ℕ) → PlainStructs → ℕ → ℕ → List Scalar
+struct_scalars zero structs number offset = []
+struct_scalars (suc depth) structs number offset =
+    row_scalars (struct_scalars depth structs) structs (slice_get structs number) offset
+
+-- the scalars of a type, in order of offset
+abbrev pub scalars_of : PlainStructs → PlainType → List Scalar
+scalars_of structs t = type_scalars (struct_scalars (length structs) structs) structs t 0

@@ -1,7 +1,7 @@
 -- What stays the same in a run: the typed program, the rule of stray accesses, the settings, the cycle of manufactured values
 -- and how the input ends. A run also has, below each step, the meaning of the calls and loop turns that may follow it: each of
 -- them takes a step, so that with n steps left they go on to a meaning for fewer than n.
-use Rattle.std.specs.Prelude.{ℕ, zero, suc, Bool, true, false, ℤ, pos, List, [], ◌∷◌, Option, Some, None, slice_index_or}
+use Rattle.std.specs.Prelude.{ℕ, List, [], ◌∷◌, Option, slice_index_or}
 use Rattle.ob_words.specs.declared.types.IntType.{IntType}
 use Rattle.ob_words.specs.declared.types.IntType.TheVariants as type
 use Rattle.ob_model.specs.declared.settings.Mode.{Mode}

@@ -1,6 +1,6 @@
 -- Statements (C99 6.8). Each statement that is begun takes a step, and so does each turn of a loop before its body runs. A
 -- declaration takes none, nor does what starts a `for`.
-use Rattle.std.specs.Prelude.{ℕ, true, List, Option, Some, None}
+use Rattle.std.specs.Prelude.{true, Option, Some, None}
 use Rattle.ob_model.specs.declared.values.Value.{Value}
 use Rattle.ob_typed.specs.TypedTree.{TypedExpr, TypedStmt, TypedStmts}
 use Rattle.ob_typed.specs.TypedTree.{TypedStmt as stmt}

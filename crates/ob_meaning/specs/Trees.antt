@@ -1,9 +1,9 @@
 -- Parts of which the example programs are built. All of them stand on line 1, unless they are put on another.
-use Rattle.std.specs.Prelude.{ℕ, false, true, ℤ, pos, List, [], ◌∷◌, Option, Some, None, map}
+use Rattle.std.specs.Prelude.{ℕ, false, true, pos, List, [], ◌∷◌, map}
 use Rattle.ob_words.specs.declared.types.BinOp.TheVariants as op
 use Rattle.ob_words.specs.declared.types.IntType.TheVariants as type
 use Rattle.ob_tree.specs.Types.{PlainType, PlainStructs}
-use Rattle.ob_tree.specs.Types.PlainType.{Int, Pointer, Array}
+use Rattle.ob_tree.specs.Types.PlainType.{Int, Pointer}
 use Rattle.ob_typed.specs.declared.names.Builtin.{Builtin}
 use Rattle.ob_typed.specs.declared.names.Builtin.TheVariants as builtin
 use Rattle.ob_typed.specs.declared.names.VarName.{VarName}

@@ -3,7 +3,6 @@
 use Rattle.std.specs.Prelude.{ℕ, ◌/◌, Bool, true, false, not, ℤ, pos, List, Option}
 use Rattle.std.specs.Option.{option_map}
 use Rattle.std.specs.Ordering.{int_eq}
-use Rattle.ob_words.specs.declared.types.IntType.{IntType}
 use Rattle.ob_words.specs.Fields.{low_bytes}
 use Rattle.ob_words.specs.Types.{width}
 use Rattle.ob_words.specs.Words.{word, number}

@@ -1,5 +1,5 @@
 -- What a run keeps, and how its acts follow one another. An act ends the run or goes on with what it gives.
-use Rattle.std.specs.Prelude.{ℕ, zero, suc, ◌+◌, ◌==◌, not, Bool, ℤ, List, [], ◌∷◌, ◌++◌, length, Option, Some, None, if◌then◌else◌}
+use Rattle.std.specs.Prelude.{ℕ, zero, suc, not, Bool, ℤ, List, [], ◌∷◌, ◌++◌, Option}
 use Rattle.std.specs.List.{filter}
 use Rattle.ob_model.specs.declared.endings.Ending.TheVariants.{Steps}
 use Rattle.ob_model.specs.declared.strays.Act.{Act}
