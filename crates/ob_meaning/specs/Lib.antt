@@ -12,3 +12,5 @@ pub mod Statements
 pub mod Calls
 pub mod Runs
 pub mod Trees
+pub mod Examples
+pub mod Laws

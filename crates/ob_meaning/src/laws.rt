@@ -1,8 +1,60 @@
-ghost use Rattle.std.specs.Prelude.{◌≡◌, false, List};
-ghost use Rattle.ob_meaning.specs.Memory.{is_dead, Object};
-ghost use Rattle.ob_model.specs.declared.values.Value.TheVariants.{Null};
+ghost use Rattle.ob_meaning.specs.World.{vanish, kept, unlimited};
+ghost use Rattle.ob_meaning.specs.Laws.{OverrunReads, StrayStoreVanishes, StrayStoreIsKept, NeighbourIsUntouched, NumberAtNull, IllAlignedVanishes, LastGranule, PointerIsLost, DropChangesAnswer, UnlimitedEndsAtDrop, FirstDropIsTold, RecentUseKeeps, PointerComesBack, PointersAreEqualByObject, PointersAreCounted, OffsetsAreBounded, FreedPlaceIsTaken, HeapIsFull, UseAfterFreeEnds, OtherFreesAreTold, DivisionByZeroEnds, StepsRunOut, StackIsBounded, InputEnds};
 
-/// Null is no dead pointer.
-pub fn law_null_is_dead()
-    ensures { (objects : List Object) → is_dead objects Null ≡ false }
+/// Runs of small programs that read and write past their objects.
+pub fn law_overruns()
+    ensures reads { OverrunReads }
+    ensures vanishes { StrayStoreVanishes }
+    ensures kept { StrayStoreIsKept (kept 2) }
+    ensures unlimited { StrayStoreIsKept (unlimited 2) }
+    ensures neighbour { NeighbourIsUntouched vanish }
+    ensures neighbour_of_kept { NeighbourIsUntouched (kept 2) }
+    ensures neighbour_of_unlimited { NeighbourIsUntouched (unlimited 2) }
+    ensures pointer { PointerIsLost }
+    ensures last_granule { LastGranule vanish 48 1 }
+    ensures last_granule_kept { LastGranule (kept 2) 57 0 }
+{}
+
+/// Runs of small programs with accesses through null and ill-aligned ones, which vanish under each rule.
+pub fn law_no_place()
+    ensures null { NumberAtNull vanish }
+    ensures null_kept { NumberAtNull (kept 2) }
+    ensures null_unlimited { NumberAtNull (unlimited 2) }
+    ensures ill_aligned { IllAlignedVanishes vanish }
+    ensures ill_aligned_kept { IllAlignedVanishes (kept 2) }
+    ensures ill_aligned_unlimited { IllAlignedVanishes (unlimited 2) }
+{}
+
+/// Runs of small programs with more granules outside of objects than are kept.
+pub fn law_drops()
+    ensures kept { DropChangesAnswer }
+    ensures unlimited { UnlimitedEndsAtDrop }
+    ensures first { FirstDropIsTold }
+    ensures recent { RecentUseKeeps }
+{}
+
+/// Runs of small programs whose pointers leave their objects.
+pub fn law_pointers()
+    ensures back { PointerComesBack }
+    ensures equality { PointersAreEqualByObject }
+    ensures count { PointersAreCounted }
+    ensures far { OffsetsAreBounded }
+{}
+
+/// Runs of small programs with objects of the heap.
+pub fn law_heap()
+    ensures first_fit { FreedPlaceIsTaken }
+    ensures full { HeapIsFull }
+    ensures dead { UseAfterFreeEnds vanish }
+    ensures dead_kept { UseAfterFreeEnds (kept 2) }
+    ensures dead_unlimited { UseAfterFreeEnds (unlimited 2) }
+    ensures other { OtherFreesAreTold }
+{}
+
+/// Runs of small programs that end otherwise than by `main`'s return.
+pub fn law_ends()
+    ensures division { DivisionByZeroEnds }
+    ensures steps { StepsRunOut }
+    ensures stack { StackIsBounded }
+    ensures input { InputEnds }
 {}
