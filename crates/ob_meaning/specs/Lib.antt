@@ -14,3 +14,5 @@ pub mod Runs
 pub mod Trees
 pub mod Examples
 pub mod Laws
+pub mod ControlExamples
+pub mod ControlLaws

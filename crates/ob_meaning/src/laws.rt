@@ -1,5 +1,6 @@
 ghost use Rattle.ob_meaning.specs.World.{vanish, kept, unlimited};
 ghost use Rattle.ob_meaning.specs.Laws.{OverrunReads, StrayStoreVanishes, StrayStoreIsKept, NeighbourIsUntouched, NumberAtNull, IllAlignedVanishes, LastGranule, PointerIsLost, DropChangesAnswer, UnlimitedEndsAtDrop, FirstDropIsTold, RecentUseKeeps, PointerComesBack, PointersAreEqualByObject, PointersAreCounted, OffsetsAreBounded, FreedPlaceIsTaken, HeapIsFull, UseAfterFreeEnds, OtherFreesAreTold, DivisionByZeroEnds, StepsRunOut, StackIsBounded, InputEnds};
+ghost use Rattle.ob_meaning.specs.ControlLaws.{LeastSteps, LoopsTakeSteps, ChoicesSkip, CallsRecur, DanglingPointerEnds, ExitEnds, EndsGiveZeroOrNull, StaticsHoldPointers, ArraysAreInitialised, StepsGiveOldOrNew, PointersWalk, StructuresAreCopied, ScalarsGoAstray};
 
 /// Runs of small programs that read and write past their objects.
 pub fn law_overruns()
@@ -57,4 +58,26 @@ pub fn law_ends()
     ensures steps { StepsRunOut }
     ensures stack { StackIsBounded }
     ensures input { InputEnds }
+{}
+
+/// Runs of small programs with loops, choices and calls.
+pub fn law_control()
+    ensures least { LeastSteps }
+    ensures loops { LoopsTakeSteps }
+    ensures choices { ChoicesSkip }
+    ensures calls { CallsRecur }
+    ensures dangling { DanglingPointerEnds }
+    ensures exit { ExitEnds }
+    ensures ends { EndsGiveZeroOrNull }
+{}
+
+/// Runs of small programs with initialisers, assignments and structures.
+pub fn law_assignments()
+    ensures statics { StaticsHoldPointers }
+    ensures arrays { ArraysAreInitialised }
+    ensures steps { StepsGiveOldOrNew }
+    ensures pointers { PointersWalk }
+    ensures structures { StructuresAreCopied }
+    ensures scalars { ScalarsGoAstray vanish 48 1 }
+    ensures scalars_kept { ScalarsGoAstray (kept 1) 50 0 }
 {}
