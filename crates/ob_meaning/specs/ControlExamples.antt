@@ -1,5 +1,5 @@
 -- More small programs: loops, calls, initialisers, assignments and structures.
-use Rattle.std.specs.Prelude.{ℕ, false, true, pos, negsuc, List, [], ◌∷◌, ◌++◌, Option, Some, None}
+use Rattle.std.specs.Prelude.{ℕ, false, true, negsuc, List, [], ◌∷◌, Some}
 use Rattle.ob_words.specs.declared.types.BinOp.TheVariants as op
 use Rattle.ob_words.specs.declared.types.IntType.TheVariants as type
 use Rattle.ob_words.specs.declared.types.Relation.{Relation}
@@ -7,9 +7,9 @@ use Rattle.ob_words.specs.declared.types.Relation.TheVariants as relation
 use Rattle.ob_tree.specs.Types.{PlainType, PlainStructs}
 use Rattle.ob_tree.specs.Types.PlainType.{Int, Pointer, Array, Struct}
 use Rattle.ob_typed.specs.declared.names.Builtin.TheVariants as builtin
-use Rattle.ob_typed.specs.TypedTree.{TypedExpr, TypedInit, TypedInits, TypedLean, TypedProgram, TypedStmt}
+use Rattle.ob_typed.specs.TypedTree.{TypedExpr, TypedInit, TypedInits, TypedProgram, TypedStmt}
 use Rattle.ob_typed.specs.TypedTree.TypedExpr.{Typed}
-use Rattle.ob_typed.specs.TypedTree.TypedExprs.{NoArguments, Argument}
+use Rattle.ob_typed.specs.TypedTree.TypedExprs.{NoArguments}
 use Rattle.ob_typed.specs.TypedTree.TypedInits.{NoItems, Item}
 use Rattle.ob_typed.specs.TypedTree.{TypedNode as node, TypedLean as at, TypedStmt as stmt, TypedInit as init}
 use Rattle.ob_meaning.specs.Examples.{return_zero}

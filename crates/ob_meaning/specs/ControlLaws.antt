@@ -1,17 +1,17 @@
 -- Laws of loops, calls, initialisers, assignments and structures, by example programs that run as the others do.
-use Rattle.std.specs.Prelude.{◌≡◌, ℕ, pos, List, [], ◌∷◌}
+use Rattle.std.specs.Prelude.{◌≡◌, ℕ, pos, [], ◌∷◌}
 use Rattle.ob_model.specs.declared.endings.Ending.TheVariants.{Ended}
 use Rattle.ob_model.specs.Endings.{plain, dead}
 use Rattle.ob_meaning.specs.ControlExamples as examples
 use Rattle.ob_meaning.specs.Laws.{Gives, Prints, end_under, run_under, stray_load, stray_store}
-use Rattle.ob_meaning.specs.World.{Rule, vanish, kept}
+use Rattle.ob_meaning.specs.World.{Rule, vanish}
 
 -- the call of `main`, its body and its `return` take three of sixty steps
 abbrev pub LeastSteps : Type 0
 LeastSteps = (end_under vanish examples.nothing_done).left ≡ 57
 
--- `main`, its body, `for` and four turns; five statements in the first turn, three in the second, five in the third and four in
--- the fourth, in each of which the block is one, and `putchar` takes one more; `do` with its turn, statement and call; `return`
+-- 29 steps: the call of `main`, its body and `for`; 6, 4, 6 and 5 in the four turns (the turn, the block, the statements in it,
+-- and the call of `putchar`); `do`, its turn, its statement and the call there; `return`
 abbrev pub LoopsTakeSteps : Type 0
 LoopsTakeSteps =
     Prints (run_under vanish examples.loops) (48 ∷ 50 ∷ 100 ∷ []) [] 0

@@ -1,17 +1,16 @@
 -- Small programs, whose runs the laws tell. Each is given as C, and then as its typed tree. All have
 -- `return 0;` at the end of `main`.
-use Rattle.std.specs.Prelude.{ℕ, false, true, pos, negsuc, List, [], ◌∷◌, ◌++◌, Option, Some, None}
+use Rattle.std.specs.Prelude.{ℕ, true, negsuc, List, [], ◌∷◌, ◌++◌, Some}
 use Rattle.ob_words.specs.declared.types.BinOp.TheVariants as op
 use Rattle.ob_words.specs.declared.types.IntType.TheVariants as type
 use Rattle.ob_words.specs.declared.types.Relation.TheVariants as relation
 use Rattle.ob_tree.specs.Types.{PlainType, PlainStructs}
-use Rattle.ob_tree.specs.Types.PlainType.{Int, Pointer, Array, Struct}
+use Rattle.ob_tree.specs.Types.PlainType.{Pointer, Array, Struct}
 use Rattle.ob_typed.specs.declared.names.Builtin.TheVariants as builtin
 use Rattle.ob_typed.specs.TypedTree.{TypedExpr, TypedLean, TypedProgram, TypedStmt}
 use Rattle.ob_typed.specs.TypedTree.TypedExpr.{Typed}
-use Rattle.ob_typed.specs.TypedTree.TypedInits.{NoItems, Item}
 use Rattle.ob_typed.specs.TypedTree.{TypedNode as node, TypedLean as at, TypedStmt as stmt, TypedInit as init}
-use Rattle.ob_meaning.specs.Trees.{int_type, char_type, char_pointer, int, number, as_char, as_int, plus, digit, place, read, past, before, pointer_to, element, pointed, built_in_call, malloc, statements_of, set, put, put_digit, free_local, function_of, main_of, zero_object, program_of, simple}
+use Rattle.ob_meaning.specs.Trees.{int_type, char_type, char_pointer, int, number, as_char, as_int, digit, place, read, past, before, pointer_to, element, pointed, built_in_call, malloc, set, put, put_digit, free_local, main_of, zero_object, program_of, simple}
 
 abbrev pub return_zero : List TypedStmt
 return_zero = stmt.Return (Some (number 0)) ∷ []

@@ -94,8 +94,8 @@ store_based u ty line b v w = bind (store u.rule (kind_of ty) line b.base b.disp
 abbrev pub copy_scalar : Setup → ℕ → Based → Based → Scalar → World → Run Value
 copy_scalar u line to from s w =
     formed (from.displacement +ℤ pos s.offset) w (λ d w1.
-        bind (load u.rule u.cycle s.kind line from.base d w1) (λ v w2.
-            formed (to.displacement +ℤ pos s.offset) w2 (λ e w3. store u.rule s.kind line to.base e v w3)))
+    bind (load u.rule u.cycle s.kind line from.base d w1) (λ v w2.
+    formed (to.displacement +ℤ pos s.offset) w2 (λ e w3. store u.rule s.kind line to.base e v w3)))
 
 abbrev pub copy_scalars : Setup → ℕ → Based → Based → List Scalar → World → Run Value
 copy_scalars u line to from [] w = go nothing w
@@ -158,21 +158,21 @@ abbrev mutual
   -- the place is evaluated and loaded first
   node_value u m line (node.Update op t post (Place own_line ty lean) e) w =
       bind (based u m lean w) (λ b w1.
-          bind (load_based u ty line b w1) (λ x w2.
-              bind (value u m e w2) (λ y w3.
-                  bind (arithmetic_in op t x y w3) (λ z w4.
-                      bind (store_based u ty line b (converted (number_type ty) z) w4) (λ v w5. go (older_if post x v) w5)))))
+      bind (load_based u ty line b w1) (λ x w2.
+      bind (value u m e w2) (λ y w3.
+      bind (arithmetic_in op t x y w3) (λ z w4.
+      bind (store_based u ty line b (converted (number_type ty) z) w4) (λ v w5. go (older_if post x v) w5)))))
   node_value u m line (node.PtrUpdate scale minus post (Place own_line ty lean) e) w =
       bind (based u m lean w) (λ b w1.
-          bind (load_based u ty line b w1) (λ x w2.
-              bind (value u m e w2) (λ n w3.
-                  formed (stride minus scale (number_of n)) w3 (λ d w4.
-                      bind (move u.settings.away line x d w4) (λ p w5.
-                          bind (store_based u ty line b p w5) (λ v w6. go (older_if post x v) w6))))))
+      bind (load_based u ty line b w1) (λ x w2.
+      bind (value u m e w2) (λ n w3.
+      formed (stride minus scale (number_of n)) w3 (λ d w4.
+      bind (move u.settings.away line x d w4) (λ p w5.
+      bind (store_based u ty line b p w5) (λ v w6. go (older_if post x v) w6))))))
   -- the assignment of a structure (6.5.16.1): both places are evaluated first
   node_value u m line (node.CopyStruct (Place own_line ty lean) (Place from_line from_type from_lean)) w =
       bind (based u m lean w) (λ to w1.
-          bind (based u m from_lean w1) (λ from w2. copy_scalars u line to from (scalars_of u.program.structs ty) w2))
+      bind (based u m from_lean w1) (λ from w2. copy_scalars u line to from (scalars_of u.program.structs ty) w2))
   -- calls (6.5.2.2): the arguments are evaluated in order, and the call takes a step
   node_value u m line (node.Call f es) w = bind (values u m es w) (λ vs w1. step w1 (λ w2. m.call f vs w2))
   node_value u m line (node.CallBuiltin f es) w =

@@ -23,8 +23,8 @@ abbrev pub store_characters : Setup → PlainType → Based → List ℕ → ℕ
 store_characters u ty b [] i w = go nothing w
 store_characters u ty b (c ∷ cs) i w =
     bind (further b (pos i) w) (λ at w1.
-        bind (store_based u ty 0 at (converted (number_type ty) (value_of.Num (pos c))) w1) (λ v w2.
-            store_characters u ty b cs (i + 1) w2))
+    bind (store_based u ty 0 at (converted (number_type ty) (value_of.Num (pos c))) w1) (λ v w2.
+    store_characters u ty b cs (i + 1) w2))
 
 abbrev mutual
   -- the initialiser of a part of an object that lies at b and has this type
@@ -41,8 +41,8 @@ abbrev mutual
   initialise_items u m ty b NoItems i w = go nothing w
   initialise_items u m ty b (Item head tail) i w =
       bind (further b (pos (part_of u.program.structs ty i).offset) w) (λ at w1.
-          bind (initialise u m (part_of u.program.structs ty i).ty at head w1) (λ v w2.
-              initialise_items u m ty b tail (i + 1) w2))
+      bind (initialise u m (part_of u.program.structs ty i).ty at head w1) (λ v w2.
+      initialise_items u m ty b tail (i + 1) w2))
 
 -- arrays and structures are cleared first
 abbrev pub cleared : PlainType → ℕ → World → World

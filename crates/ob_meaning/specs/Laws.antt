@@ -1,6 +1,6 @@
 -- Laws of the meaning. The example programs run with the cycle 0, 1, 2 of manufactured values from its first place on, for
 -- sixty steps, with room for one out-of-bounds pointer and 32 bytes of heap, and without input unless it is given.
-use Rattle.std.specs.Prelude.{◌≡◌, ℕ, pos, List, [], ◌∷◌, Option, Some, None}
+use Rattle.std.specs.Prelude.{◌≡◌, ℕ, pos, List, [], ◌∷◌, Some}
 use Rattle.ob_model.specs.declared.endings.Ending.TheVariants.{Ended, Steps, Divide, Stack, Descriptors, Far, ReadFault}
 use Rattle.ob_model.specs.declared.settings.Mode.TheVariants.{Oblivious}
 use Rattle.ob_model.specs.declared.settings.RunSettings.{RunSettings}

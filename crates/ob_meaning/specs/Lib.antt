@@ -16,3 +16,4 @@ pub mod Examples
 pub mod Laws
 pub mod ControlExamples
 pub mod ControlLaws
+pub mod LineExample

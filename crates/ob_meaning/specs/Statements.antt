@@ -67,8 +67,8 @@ abbrev mutual
   exec u m (stmt.Do s e) w = step w (turn (exec u m s) (go nothing) (m.turns (loop_of (Some e) None s)))
   exec u m (stmt.For start test after s) w =
       step w (λ w1.
-          then_do (start_all u m start w1)
-          (looped (optional (truth true) u m test) (turn (exec u m s) (optional nothing u m after) (m.turns (loop_of test after s)))))
+      then_do (start_all u m start w1)
+      (looped (optional (truth true) u m test) (turn (exec u m s) (optional nothing u m after) (m.turns (loop_of test after s)))))
   exec u m stmt.Break w = step w (go broke)
   exec u m stmt.Continue w = step w (go continued)
   exec u m (stmt.Return e) w = step w (λ w1. bind (optional nothing u m e w1) (λ v w2. go (gave v) w2))

@@ -114,8 +114,14 @@ names_of ts = map (λ t. no_name) ts
 abbrev pub function_of : PlainType → ℕ → List PlainType → ℕ → List TypedStmt → TypedFunction
 function_of result params locals nodes body =
     record {
-      name = []; result = result; params = params; locals = locals; names = names_of locals; nodes = nodes;
-      weight = 0; body = stmt.Block (statements_of body);
+      name = [];
+      result = result;
+      params = params;
+      locals = locals;
+      names = names_of locals;
+      nodes = nodes;
+      weight = 0;
+      body = stmt.Block (statements_of body);
     }
 
 abbrev pub zero_object : PlainType → TypedObject

@@ -1,5 +1,6 @@
 ghost use Rattle.ob_meaning.specs.World.{vanish, kept, unlimited};
 ghost use Rattle.ob_meaning.specs.Laws.{OverrunReads, StrayStoreVanishes, StrayStoreIsKept, NeighbourIsUntouched, NumberAtNull, IllAlignedVanishes, LastGranule, PointerIsLost, DropChangesAnswer, UnlimitedEndsAtDrop, FirstDropIsTold, RecentUseKeeps, PointerComesBack, PointersAreEqualByObject, PointersAreCounted, OffsetsAreBounded, FreedPlaceIsTaken, HeapIsFull, UseAfterFreeEnds, OtherFreesAreTold, DivisionByZeroEnds, StepsRunOut, StackIsBounded, InputEnds};
+ghost use Rattle.ob_meaning.specs.LineExample.{LineIsCut, LineIsWhole};
 ghost use Rattle.ob_meaning.specs.ControlLaws.{LeastSteps, LoopsTakeSteps, ChoicesSkip, CallsRecur, DanglingPointerEnds, ExitEnds, EndsGiveZeroOrNull, StaticsHoldPointers, ArraysAreInitialised, StepsGiveOldOrNew, PointersWalk, StructuresAreCopied, ScalarsGoAstray};
 
 /// Runs of small programs that read and write past their objects.
@@ -80,4 +81,10 @@ pub fn law_assignments()
     ensures structures { StructuresAreCopied }
     ensures scalars { ScalarsGoAstray vanish 48 1 }
     ensures scalars_kept { ScalarsGoAstray (kept 1) 50 0 }
+{}
+
+/// A program that reads a line into a buffer that is too short, and prints it.
+pub fn law_line()
+    ensures cut { LineIsCut }
+    ensures whole { LineIsWhole }
 {}
