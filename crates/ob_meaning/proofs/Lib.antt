@@ -1,0 +1,2 @@
+pub mod OutsideLists
+pub mod SameMaps
