@@ -1,2 +1,4 @@
 pub mod OutsideLists
 pub mod SameMaps
+pub mod Alike
+pub mod AlikeAccesses

@@ -17,7 +17,7 @@ use Rattle.ob_meaning.specs.Memory.{Object, no_object}
 use Rattle.ob_meaning.specs.Setup.{Setup}
 use Rattle.ob_tree.specs.Sizes.{size}
 use Rattle.ob_meaning.specs.Values.{Cell, number_of}
-use Rattle.ob_meaning.specs.World.{Rule, World, Run, stop, go, step}
+use Rattle.ob_meaning.specs.World.{Rule, World, Run, stop, go, end_of, step}
 
 -- ---- static objects
 
@@ -70,14 +70,10 @@ abbrev pub run : Setup → ℕ → List ℕ → ℕ → Run Value
 run u cycle_place input steps =
     step (first_world u cycle_place input steps) ((below u steps).call u.program.main [])
 
--- how a run ends, and the world at which it ends
+-- how a run ends
 abbrev pub finish_of : Run Value → Finish
 finish_of (stop finish w) = finish
 finish_of (go v w) = plain (Ended (number_of v))
-
-abbrev pub end_of : Run Value → World
-end_of (stop finish w) = w
-end_of (go v w) = w
 
 abbrev pub outcome_at : Finish → World → Outcome
 outcome_at finish w =

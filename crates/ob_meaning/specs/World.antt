@@ -62,6 +62,11 @@ pub data Run (A : Type 0) : Type 0 where
   stop : (finish : Finish) (w : World) → Run A
   go : (a : A) (w : World) → Run A
 
+-- the world at which it ends or goes on
+abbrev pub end_of : {A : Type 0} → Run A → World
+end_of (stop finish w) = w
+end_of (go a w) = w
+
 abbrev pub bind : {A B : Type 0} → Run A → (A → World → Run B) → Run B
 bind (stop finish w) k = stop finish w
 bind (go a w) k = k a w
