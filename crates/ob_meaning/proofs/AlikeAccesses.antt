@@ -15,9 +15,10 @@ use Rattle.ob_model.specs.Bounded.{Listed, after_load, after_store, dropped, lis
 use Rattle.ob_model.specs.Cells.{unset}
 use Rattle.ob_model.specs.Endings.{dropped as too_many}
 use Rattle.ob_meaning.specs.Accesses.{Target, dead_object, too_far, at, target, outside_cell, first_drop, put_outside, take_made, or_made, load_own, load_outside, load_stray, store_own, store_outside, store_stray, told_if_stray, load_at, store_at, load, store}
+use Rattle.ob_meaning.specs.Memory.{own_cell}
 use Rattle.ob_meaning.specs.Values.{Cell, nothing, read_cell, write_cell}
 use Rattle.ob_meaning.specs.World.{Rule, kept, unlimited, World, Run, stop, go, end_of, stray_event, told}
-use Rattle.ob_meaning.proofs.Alike.{Acts, Alike, Beside, HasDropped, IsLater, begins_more, begins_self, later_self, with_outside}
+use Rattle.ob_meaning.proofs.Alike.{Acts, Alike, Beside, HasDropped, IsLater, begins_more, begins_self, later_self, later_then, with_outside}
 use Rattle.ob_meaning.proofs.OutsideLists.{cell_in, length-without, listed_is, without-none}
 use Rattle.ob_meaning.proofs.SameMaps.{SameMap, same-length, same-put, same-used}
 
@@ -113,3 +114,102 @@ module _ (cap : ℕ) where
   put_later : (line o : ℕ) (g : ℤ) (cell : Cell) (w : World) → IsLater w (end_of (put_outside (kept cap) line o g cell w))
   put_later line o g cell w =
       (begins_self w.output, begins_self w.events, λ n h. drop_stays w.first_drop (is_some (dropped cap o g cell w.outside)) (length w.events) n h)
+
+  -- ---- loads
+
+  or_made_later : (c : Option Value) (cycle : List ℕ) (kind : LoadKind) (w : World) → IsLater w (end_of (or_made c cycle kind w))
+  or_made_later (Some v) cycle kind w = later_self w
+  or_made_later None cycle kind w = later_self w
+
+  load_outside_alike : (cycle : List ℕ) (kind : LoadKind) (o : ℕ) (a : ℤ) (w : World) (ks : List (Listed Cell)) → Beside cap w ks → Alike cap (load_outside (unlimited cap) cycle kind o a w) (load_outside (kept cap) cycle kind o a (with_outside ks w))
+  load_outside_alike cycle kind o a w ks b =
+      let after : List (Listed Cell) = after_load o (granule a) ks in
+      subst (λ (c : Cell). Alike cap (load_outside (unlimited cap) cycle kind o a w) (or_made (read_cell kind a c) cycle kind (with_outside after w))) (sym (same_cell o (granule a) w ks b)) (alike_or_made (read_cell kind a (outside_cell w o (granule a))) cycle kind w after (same-used o (granule a) w.outside ks b.0, b.1, b.2))
+
+  load_stray_alike : (cycle : List ℕ) (kind : LoadKind) (o : ℕ) (a : ℤ) (r : Reach) (w : World) (ks : List (Listed Cell)) → Beside cap w ks → Alike cap (load_stray (unlimited cap) cycle kind o a r w) (load_stray (kept cap) cycle kind o a r (with_outside ks w))
+  load_stray_alike cycle kind o a reaches.inside w ks b =
+      alike_or_made (read_cell kind a (own_cell w.objects o (granule a))) cycle kind w ks b
+  load_stray_alike cycle kind o a reaches.own w ks b =
+      alike_or_made (read_cell kind a (own_cell w.objects o (granule a))) cycle kind w ks b
+  load_stray_alike cycle kind o a reaches.outside w ks b = load_outside_alike cycle kind o a w ks b
+  load_stray_alike cycle kind o a reaches.vanishing w ks b = (ks, refl, b)
+
+  load_stray_later : (cycle : List ℕ) (kind : LoadKind) (o : ℕ) (a : ℤ) (r : Reach) (w : World) → IsLater w (end_of (load_stray (kept cap) cycle kind o a r w))
+  load_stray_later cycle kind o a reaches.inside w = or_made_later (read_cell kind a (own_cell w.objects o (granule a))) cycle kind w
+  load_stray_later cycle kind o a reaches.own w = or_made_later (read_cell kind a (own_cell w.objects o (granule a))) cycle kind w
+  load_stray_later cycle kind o a reaches.outside w =
+      or_made_later (read_cell kind a (outside_cell w o (granule a))) cycle kind (with_outside (after_load o (granule a) w.outside) w)
+  load_stray_later cycle kind o a reaches.vanishing w = later_self w
+
+  -- what was told before an act
+  beside_told : (r : Reach) (line : ℕ) (what : Act) (o : ℕ) (a : ℤ) (k : ℕ) (w : World) (ks : List (Listed Cell)) → Beside cap w ks → Beside cap (told_if_stray r line what o a k w) ks
+  beside_told reaches.inside line what o a k w ks b = b
+  beside_told reaches.own line what o a k w ks b = b
+  beside_told reaches.outside line what o a k w ks b = b
+  beside_told reaches.vanishing line what o a k w ks b = b
+
+  told_beside : (r : Reach) (line : ℕ) (what : Act) (o : ℕ) (a : ℤ) (k : ℕ) (w : World) (ks : List (Listed Cell)) → told_if_stray r line what o a k (with_outside ks w) ≡ with_outside ks (told_if_stray r line what o a k w)
+  told_beside reaches.inside line what o a k w ks = refl
+  told_beside reaches.own line what o a k w ks = refl
+  told_beside reaches.outside line what o a k w ks = refl
+  told_beside reaches.vanishing line what o a k w ks = refl
+
+  load_at_alike : (t : Target) (cycle : List ℕ) (kind : LoadKind) (line : ℕ) (w : World) (ks : List (Listed Cell)) → Beside cap w ks → Alike cap (load_at t (unlimited cap) cycle kind line w) (load_at t (kept cap) cycle kind line (with_outside ks w))
+  load_at_alike dead_object cycle kind line w ks b = (ks, refl, b)
+  load_at_alike too_far cycle kind line w ks b = (ks, refl, b)
+  load_at_alike (at o a r) cycle kind line w ks b =
+      let v : World = told_if_stray r line act.Load o a (bytes_of_kind kind) w in
+      subst (λ (x : World). Alike cap (load_stray (unlimited cap) cycle kind o a r v) (load_stray (kept cap) cycle kind o a r x)) (sym (told_beside r line act.Load o a (bytes_of_kind kind) w ks)) (load_stray_alike cycle kind o a r v ks (beside_told r line act.Load o a (bytes_of_kind kind) w ks b))
+
+  load_at_later : (t : Target) (cycle : List ℕ) (kind : LoadKind) (line : ℕ) (w : World) → IsLater w (end_of (load_at t (kept cap) cycle kind line w))
+  load_at_later dead_object cycle kind line w = later_self w
+  load_at_later too_far cycle kind line w = later_self w
+  load_at_later (at o a r) cycle kind line w =
+      let v : World = told_if_stray r line act.Load o a (bytes_of_kind kind) w in
+      later_then w v (end_of (load_stray (kept cap) cycle kind o a r v)) (told_later r line act.Load o a (bytes_of_kind kind) w) (load_stray_later cycle kind o a r v)
+
+  pub load_acts : (cycle : List ℕ) (kind : LoadKind) (line : ℕ) (p : Value) (d : ℤ) → Acts cap (load (unlimited cap) cycle kind line p d) (load (kept cap) cycle kind line p d)
+  load_acts cycle kind line p d =
+      record {
+        alike = λ w ks b. load_at_alike (target (kept cap) w.objects p d (bytes_of_kind kind)) cycle kind line w ks b;
+        later = λ w. load_at_later (target (kept cap) w.objects p d (bytes_of_kind kind)) cycle kind line w;
+      }
+
+  -- ---- stores
+
+  store_outside_alike : (kind : LoadKind) (line o : ℕ) (a : ℤ) (v : Value) (w : World) (ks : List (Listed Cell)) → Beside cap w ks → Alike cap (store_outside (unlimited cap) kind line o a v w) (store_outside (kept cap) kind line o a v (with_outside ks w))
+  store_outside_alike kind line o a v w ks b =
+      subst (λ (c : Cell). Alike cap (store_outside (unlimited cap) kind line o a v w) (put_outside (kept cap) line o (granule a) (write_cell kind a v c) (with_outside ks w))) (sym (same_cell o (granule a) w ks b)) (put_alike line o (granule a) (write_cell kind a v (outside_cell w o (granule a))) w ks b)
+
+  store_stray_alike : (kind : LoadKind) (line o : ℕ) (a : ℤ) (r : Reach) (v : Value) (w : World) (ks : List (Listed Cell)) → Beside cap w ks → Alike cap (store_stray (unlimited cap) kind line o a r v w) (store_stray (kept cap) kind line o a r v (with_outside ks w))
+  store_stray_alike kind line o a reaches.inside v w ks b = (ks, refl, b)
+  store_stray_alike kind line o a reaches.own v w ks b = (ks, refl, b)
+  store_stray_alike kind line o a reaches.outside v w ks b = store_outside_alike kind line o a v w ks b
+  store_stray_alike kind line o a reaches.vanishing v w ks b = (ks, refl, b)
+
+  store_stray_later : (kind : LoadKind) (line o : ℕ) (a : ℤ) (r : Reach) (v : Value) (w : World) → IsLater w (end_of (store_stray (kept cap) kind line o a r v w))
+  store_stray_later kind line o a reaches.inside v w = later_self w
+  store_stray_later kind line o a reaches.own v w = later_self w
+  store_stray_later kind line o a reaches.outside v w = put_later line o (granule a) (write_cell kind a v (outside_cell w o (granule a))) w
+  store_stray_later kind line o a reaches.vanishing v w = later_self w
+
+  store_at_alike : (t : Target) (kind : LoadKind) (line : ℕ) (v : Value) (w : World) (ks : List (Listed Cell)) → Beside cap w ks → Alike cap (store_at t (unlimited cap) kind line v w) (store_at t (kept cap) kind line v (with_outside ks w))
+  store_at_alike dead_object kind line v w ks b = (ks, refl, b)
+  store_at_alike too_far kind line v w ks b = (ks, refl, b)
+  store_at_alike (at o a r) kind line v w ks b =
+      let x : World = told_if_stray r line act.Store o a (bytes_of_kind kind) w in
+      subst (λ (y : World). Alike cap (store_stray (unlimited cap) kind line o a r v x) (store_stray (kept cap) kind line o a r v y)) (sym (told_beside r line act.Store o a (bytes_of_kind kind) w ks)) (store_stray_alike kind line o a r v x ks (beside_told r line act.Store o a (bytes_of_kind kind) w ks b))
+
+  store_at_later : (t : Target) (kind : LoadKind) (line : ℕ) (v : Value) (w : World) → IsLater w (end_of (store_at t (kept cap) kind line v w))
+  store_at_later dead_object kind line v w = later_self w
+  store_at_later too_far kind line v w = later_self w
+  store_at_later (at o a r) kind line v w =
+      let x : World = told_if_stray r line act.Store o a (bytes_of_kind kind) w in
+      later_then w x (end_of (store_stray (kept cap) kind line o a r v x)) (told_later r line act.Store o a (bytes_of_kind kind) w) (store_stray_later kind line o a r v x)
+
+  pub store_acts : (kind : LoadKind) (line : ℕ) (p : Value) (d : ℤ) (v : Value) → Acts cap (store (unlimited cap) kind line p d v) (store (kept cap) kind line p d v)
+  store_acts kind line p d v =
+      record {
+        alike = λ w ks b. store_at_alike (target (kept cap) w.objects p d (bytes_of_kind kind)) kind line v w ks b;
+        later = λ w. store_at_later (target (kept cap) w.objects p d (bytes_of_kind kind)) kind line v w;
+      }
