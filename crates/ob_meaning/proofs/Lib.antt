@@ -2,3 +2,4 @@ pub mod OutsideLists
 pub mod SameMaps
 pub mod Alike
 pub mod AlikeAccesses
+pub mod AlikePointers
