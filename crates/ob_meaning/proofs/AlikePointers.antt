@@ -28,9 +28,9 @@ use Rattle.ob_meaning.proofs.SameMaps.{same-surviving}
 module _ (cap : ℕ) where
   -- ---- displacements and moves
 
-  pub formed_acts : {A : Type 0} (d : ℤ) (f g : ℤ → World → Run A) → Acts cap (f d) (g d) → Acts cap (λ w. formed d w f) (λ w. formed d w g)
-  formed_acts d f g s =
-      if_acts cap (is_far d) (stop (plain Far)) (stop (plain Far)) (f d) (g d) (stop_acts cap Far) s
+  pub formed_acts : {A : Type 0} (d : ℤ) (f g : ℤ → World → Run A) → ((e : ℤ) → Acts cap (f e) (g e)) → Acts cap (λ w. formed d w f) (λ w. formed d w g)
+  formed_acts d f g each =
+      if_acts cap (is_far d) (stop (plain Far)) (stop (plain Far)) (f d) (g d) (stop_acts cap Far) (each d)
 
   listed_acts : (away : ℕ) (pair : Pair) → Acts cap (listed away pair) (listed away pair)
   listed_acts away pair =
@@ -74,7 +74,7 @@ module _ (cap : ℕ) where
 
   pub move_acts : (away line : ℕ) (p : Value) (d : ℤ) → Acts cap (move away line p d) (move away line p d)
   move_acts away line p d =
-      unless_dead (λ w. is_dead w.objects p) line (λ w. formed d w (moved_by away p)) (λ w. formed d w (moved_by away p)) (λ w ks. refl) (formed_acts d (moved_by away p) (moved_by away p) (moved_by_acts away p d))
+      unless_dead (λ w. is_dead w.objects p) line (λ w. formed d w (moved_by away p)) (λ w. formed d w (moved_by away p)) (λ w ks. refl) (formed_acts d (moved_by away p) (moved_by away p) (moved_by_acts away p))
 
   -- ---- comparisons
 

@@ -3,3 +3,4 @@ pub mod SameMaps
 pub mod Alike
 pub mod AlikeAccesses
 pub mod AlikePointers
+pub mod AlikeExpressions
