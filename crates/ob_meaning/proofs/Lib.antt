@@ -4,3 +4,4 @@ pub mod Alike
 pub mod AlikeAccesses
 pub mod AlikePointers
 pub mod AlikeExpressions
+pub mod AlikeStatements

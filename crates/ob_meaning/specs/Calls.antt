@@ -17,7 +17,7 @@ use Rattle.ob_meaning.specs.Setup.{Below, Flow, next, broke, continued, gave, Se
 use Rattle.ob_tree.specs.Sizes.{allowance, size}
 use Rattle.ob_meaning.specs.Statements.{exec, turns}
 use Rattle.ob_meaning.specs.Values.{write_cell}
-use Rattle.ob_meaning.specs.World.{World, Call, Run, stop, go, without}
+use Rattle.ob_meaning.specs.World.{World, Call, Run, stop, go, bind, without}
 
 -- ---- the stack
 
@@ -67,12 +67,15 @@ abbrev pub null_of : LoadKind → Value
 null_of (Num t) = value_of.Num (pos 0)
 null_of Ptr = value_of.Null
 
+-- what a function gives where its body ends so
+abbrev pub result_of : PlainType → Flow → Value
+result_of ty next = null_of (kind_of ty)
+result_of ty broke = null_of (kind_of ty)
+result_of ty continued = null_of (kind_of ty)
+result_of ty (gave v) = v
+
 abbrev pub returned : Setup → PlainType → Run Flow → Run Value
-returned u result (stop finish w) = stop finish w
-returned u result (go next w) = go (null_of (kind_of result)) (left u w)
-returned u result (go broke w) = go (null_of (kind_of result)) (left u w)
-returned u result (go continued w) = go (null_of (kind_of result)) (left u w)
-returned u result (go (gave v) w) = go v (left u w)
+returned u ty r = bind r (λ flow w. go (result_of ty flow) (left u w))
 
 -- a call, after its step
 abbrev pub called : Setup → Below → ℕ → List Value → World → Run Value

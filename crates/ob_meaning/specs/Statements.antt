@@ -12,20 +12,24 @@ use Rattle.ob_meaning.specs.Values.{is_true, nothing, truth}
 use Rattle.ob_meaning.specs.World.{World, Run, stop, go, bind, step}
 
 -- goes on where a statement has run to its end
+abbrev pub goes_on : (World → Run Flow) → Flow → World → Run Flow
+goes_on k next w = k w
+goes_on k broke w = go broke w
+goes_on k continued w = go continued w
+goes_on k (gave v) w = go (gave v) w
+
 abbrev pub then_do : Run Flow → (World → Run Flow) → Run Flow
-then_do (stop finish w) k = stop finish w
-then_do (go next w) k = k w
-then_do (go broke w) k = go broke w
-then_do (go continued w) k = go continued w
-then_do (go (gave v) w) k = go (gave v) w
+then_do r k = bind r (goes_on k)
 
 -- goes on with a loop after its body: `continue` has ended the body alone, `break` the loop (6.8.6)
+abbrev pub loops_on : (World → Run Flow) → Flow → World → Run Flow
+loops_on k next w = k w
+loops_on k broke w = go next w
+loops_on k continued w = k w
+loops_on k (gave v) w = go (gave v) w
+
 abbrev pub then_turn : Run Flow → (World → Run Flow) → Run Flow
-then_turn (stop finish w) k = stop finish w
-then_turn (go next w) k = k w
-then_turn (go broke w) k = go next w
-then_turn (go continued w) k = k w
-then_turn (go (gave v) w) k = go (gave v) w
+then_turn r k = bind r (loops_on k)
 
 -- an expression that may be left out; a loop's test is true then (6.8.5.3)
 abbrev pub optional : Value → Setup → Below → Option TypedExpr → World → Run Value
