@@ -5,3 +5,4 @@ pub mod AlikeAccesses
 pub mod AlikePointers
 pub mod AlikeExpressions
 pub mod AlikeStatements
+pub mod FirstDrop

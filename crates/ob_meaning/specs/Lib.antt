@@ -17,3 +17,4 @@ pub mod Laws
 pub mod ControlExamples
 pub mod ControlLaws
 pub mod LineExample
+pub mod FirstDrop

@@ -1,5 +1,6 @@
 ghost use Rattle.ob_meaning.specs.World.{vanish, kept, unlimited};
 ghost use Rattle.ob_meaning.specs.Laws.{OverrunReads, StrayStoreVanishes, StrayStoreIsKept, NeighbourIsUntouched, NumberAtNull, IllAlignedVanishes, LastGranule, PointerIsLost, DropChangesAnswer, UnlimitedEndsAtDrop, FirstDropIsTold, RecentUseKeeps, PointerComesBack, PointersAreEqualByObject, PointersAreCounted, OffsetsAreBounded, FreedPlaceIsTaken, HeapIsFull, UseAfterFreeEnds, OtherFreesAreTold, DivisionByZeroEnds, StepsRunOut, StackIsBounded, InputEnds};
+ghost use Rattle.ob_meaning.specs.FirstDrop.{RunsAreAlikeToTheFirstDrop};
 ghost use Rattle.ob_meaning.specs.LineExample.{LineIsCut, LineIsWhole};
 ghost use Rattle.ob_meaning.specs.ControlLaws.{LeastSteps, LoopsTakeSteps, ChoicesSkip, CallsRecur, DanglingPointerEnds, ExitEnds, EndsGiveZeroOrNull, StaticsHoldPointers, ArraysAreInitialised, StepsGiveOldOrNew, PointersWalk, StructuresAreCopied, ScalarsGoAstray};
 
@@ -87,4 +88,12 @@ pub fn law_assignments()
 pub fn law_line()
     ensures cut { LineIsCut }
     ensures whole { LineIsWhole }
+{}
+
+/// For all programs, settings, inputs and steps: where the run with unlimited objects ends by itself, the
+/// run with a bounded list of stray granules is the same and drops none. Where the unlimited run ends
+/// because a store would keep one granule too many, the bounded run begins as it does, and that store is
+/// the first that drops.
+pub fn law_first_drop()
+    ensures { RunsAreAlikeToTheFirstDrop }
 {}
