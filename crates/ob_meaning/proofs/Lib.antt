@@ -6,3 +6,4 @@ pub mod AlikePointers
 pub mod AlikeExpressions
 pub mod AlikeStatements
 pub mod FirstDrop
+pub mod Stores

@@ -13,7 +13,7 @@ use Rattle.ob_typed.specs.TypedTree.TypedExprs.{NoArguments}
 use Rattle.ob_typed.specs.TypedTree.TypedInits.{NoItems, Item}
 use Rattle.ob_typed.specs.TypedTree.{TypedNode as node, TypedLean as at, TypedStmt as stmt, TypedInit as init}
 use Rattle.ob_meaning.specs.Examples.{return_zero}
-use Rattle.ob_meaning.specs.Trees.{int_type, char_type, char_pointer, int, number, as_char, as_int, plus, digit, place, read, past, pointer_to, element, pointed, arguments_of, built_in_call, no_name, statements_of, set, put, put_digit, function_of, main_of, program_of, simple}
+use Rattle.ob_meaning.specs.ExampleTrees.{int_type, char_type, char_pointer, int, number, as_char, as_int, plus, digit, place, read, past, pointer_to, element, pointed, arguments_of, built_in_call, no_name, statements_of, set, put, put_digit, function_of, main_of, program_of, simple}
 
 abbrev pub short_type : PlainType
 short_type = Int type.Short

@@ -10,7 +10,7 @@ use Rattle.ob_typed.specs.declared.names.Builtin.TheVariants as builtin
 use Rattle.ob_typed.specs.TypedTree.{TypedExpr, TypedLean, TypedProgram, TypedStmt}
 use Rattle.ob_typed.specs.TypedTree.TypedExpr.{Typed}
 use Rattle.ob_typed.specs.TypedTree.{TypedNode as node, TypedLean as at, TypedStmt as stmt, TypedInit as init}
-use Rattle.ob_meaning.specs.Trees.{int_type, char_type, char_pointer, int, number, as_char, as_int, digit, place, read, past, before, pointer_to, element, pointed, built_in_call, malloc, set, put, put_digit, free_local, main_of, zero_object, program_of, simple}
+use Rattle.ob_meaning.specs.ExampleTrees.{int_type, char_type, char_pointer, int, number, as_char, as_int, digit, place, read, past, before, pointer_to, element, pointed, built_in_call, malloc, set, put, put_digit, free_local, main_of, zero_object, program_of, simple}
 
 abbrev pub return_zero : List TypedStmt
 return_zero = stmt.Return (Some (number 0)) ∷ []

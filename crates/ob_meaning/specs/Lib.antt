@@ -11,10 +11,11 @@ pub mod Initialisers
 pub mod Statements
 pub mod Calls
 pub mod Runs
-pub mod Trees
-pub mod Examples
-pub mod Laws
-pub mod ControlExamples
-pub mod ControlLaws
-pub mod LineExample
 pub mod FirstDrop
+pub mod MemoryLaws
+pub mod ExampleTrees
+pub mod Examples
+pub mod ExampleRuns
+pub mod ControlExamples
+pub mod ControlRuns
+pub mod LineExample

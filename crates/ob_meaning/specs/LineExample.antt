@@ -29,9 +29,9 @@ use Rattle.ob_typed.specs.TypedTree.TypedExpr.{Typed}
 use Rattle.ob_typed.specs.TypedTree.TypedPlace.{Place}
 use Rattle.ob_typed.specs.TypedTree.{TypedNode as node, TypedLean as at, TypedStmt as stmt, TypedInit as init}
 use Rattle.ob_meaning.specs.ControlExamples.{block, local}
-use Rattle.ob_meaning.specs.Laws.{Prints, example_settings}
+use Rattle.ob_meaning.specs.ExampleRuns.{Prints, example_settings}
 use Rattle.ob_meaning.specs.Runs.{meaning}
-use Rattle.ob_meaning.specs.Trees.{int_type, char_type, char_pointer, int, number, as_char, place, arguments_of, built_in_call, function_of, main_of, pointer_to, program_of, zero_object}
+use Rattle.ob_meaning.specs.ExampleTrees.{int_type, char_type, char_pointer, int, number, as_char, place, arguments_of, built_in_call, function_of, main_of, pointer_to, program_of, zero_object}
 use Rattle.ob_meaning.specs.World.{Rule, vanish, kept, stray_event}
 
 -- ---- the library's function

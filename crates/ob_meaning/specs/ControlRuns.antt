@@ -3,7 +3,7 @@ use Rattle.std.specs.Prelude.{◌≡◌, ℕ, pos, [], ◌∷◌}
 use Rattle.ob_model.specs.declared.endings.Ending.TheVariants.{Ended}
 use Rattle.ob_model.specs.Endings.{plain, dead}
 use Rattle.ob_meaning.specs.ControlExamples as examples
-use Rattle.ob_meaning.specs.Laws.{Gives, Prints, end_under, run_under, stray_load, stray_store}
+use Rattle.ob_meaning.specs.ExampleRuns.{Gives, Prints, end_under, run_under, stray_load, stray_store}
 use Rattle.ob_meaning.specs.World.{Rule, vanish}
 
 -- the call of `main`, its body and its `return` take three of sixty steps
