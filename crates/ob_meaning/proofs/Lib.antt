@@ -7,3 +7,4 @@ pub mod AlikeExpressions
 pub mod AlikeStatements
 pub mod FirstDrop
 pub mod Stores
+pub mod Strays

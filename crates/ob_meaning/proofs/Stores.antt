@@ -2,6 +2,7 @@
 use Rattle.std.proofs.Common.{◌≡◌, ◌≢◌, ℕ, zero, suc, ◌+◌, ◌/◌, ◌<◌, ◌≤◌, ◌⊎◌, inl, inr, Bool, true, false, not, cond, ◌&&◌, ◌||◌, nat_lt, ℤ, pos, negsuc, ◌+ℤ◌, unsigned_abs, List, [], ◌∷◌, length, is_some, unwrap_or, Option, Some, None, if◌then◌else◌, slice_index_or, slice_set, arith, refl, sym, subst, ◌∙◌, ap}
 use Rattle.ob_model.specs.declared.strays.Act.{Act}
 use Rattle.ob_model.specs.declared.strays.Act.TheVariants as act
+use Rattle.ob_model.specs.declared.strays.StrayEvent.{StrayEvent}
 use Rattle.ob_model.specs.declared.values.LoadKind.{LoadKind}
 use Rattle.ob_model.specs.declared.values.Value.{Value}
 use Rattle.ob_model.specs.declared.values.Value.TheVariants as value
@@ -14,7 +15,7 @@ use Rattle.ob_meaning.specs.Accesses.{Target, dead_object, too_far, at, keeps, o
 use Rattle.ob_meaning.specs.Memory.{Object, is_dead, no_object, object_at, own_cell, with_own, with_own_cell}
 use Rattle.ob_meaning.specs.MemoryLaws.{AllElseStays, IsSameGranule, OtherGranulesStay, OtherOutsidesStay, SizesAndLivesStay}
 use Rattle.ob_meaning.specs.Values.{Cell, nothing, write_cell}
-use Rattle.ob_meaning.specs.World.{Rule, vanish, kept, unlimited, World, Run, stop, go, end_of}
+use Rattle.ob_meaning.specs.World.{Rule, vanish, kept, unlimited, World, Run, stop, go, end_of, stray_event, told}
 use Rattle.ob_meaning.proofs.OutsideLists.{listed_is}
 use Rattle.ob_meaning.proofs.SameMaps.{other-put}
 
@@ -98,3 +99,72 @@ store_near rule kind line object other g o reaches.vanishing v w is ne = refl
 pub other_granules_stay : OtherGranulesStay
 other_granules_stay rule kind line object other g offset d v w ne =
     by_target (λ t. own_cell (end_of (store_at t rule kind line v w)).objects other (pos g) ≡ own_cell w.objects other (pos g)) rule w object offset d (bytes_of_kind kind) refl refl (store_near rule kind line object other g (offset +ℤ d) (reach (keeps rule) (object_at w.objects object).size (offset +ℤ d) (bytes_of_kind kind)) v w refl ne)
+
+-- ---- what a store leaves of each object, and of all else
+
+abbrev SameLife : List Object → List Object → ℕ → Type 0
+SameLife after before other =
+    ((object_at after other).size ≡ (object_at before other).size) × ((object_at after other).alive ≡ (object_at before other).alive)
+
+target_sizes : (t : Target) (rule : Rule) (kind : LoadKind) (line other : ℕ) (v : Value) (w : World) → SameLife (end_of (store_at t rule kind line v w)).objects w.objects other
+target_sizes dead_object rule kind line other v w = (refl, refl)
+target_sizes too_far rule kind line other v w = (refl, refl)
+target_sizes (at object o reaches.inside) rule kind line other v w =
+    size_same w.objects object other (granule o) (write_cell kind o v (own_cell w.objects object (granule o)))
+target_sizes (at object o reaches.own) rule kind line other v w =
+    size_same w.objects object other (granule o) (write_cell kind o v (own_cell w.objects object (granule o)))
+target_sizes (at object o reaches.outside) rule kind line other v w =
+    let x : World = told (stray_event line act.Store object o (bytes_of_kind kind)) w in
+    subst (λ (os : List Object). SameLife os w.objects other) (sym (put_objects rule line object (granule o) (write_cell kind o v (outside_cell x object (granule o))) x)) (refl, refl)
+target_sizes (at object o reaches.vanishing) rule kind line other v w = (refl, refl)
+
+pub sizes_and_lives_stay : SizesAndLivesStay
+sizes_and_lives_stay rule kind line other p v d w =
+    target_sizes (target rule w.objects p d (bytes_of_kind kind)) rule kind line other v w
+
+abbrev MemoryAlone : World → World → Type 0
+MemoryAlone after w =
+    after ≡ record w { objects = after.objects; outside = after.outside; first_drop = after.first_drop; events = after.events }
+
+put_alone : (rule : Rule) (line object : ℕ) (g : ℤ) (cell : Cell) (w : World) (e : StrayEvent) → MemoryAlone (end_of (put_outside rule line object g cell (told e w))) w
+put_alone vanish line object g cell w e = refl
+put_alone (kept cap) line object g cell w e = refl
+put_alone (unlimited cap) line object g cell w e = by_test (is_some (listed_cell object g w.outside) || nat_lt (length w.outside) cap)
+  where
+    by_test : (b : Bool) → MemoryAlone (end_of (if b then go nothing (record (told e w) { outside = put_first object g cell w.outside }) else stop (too_many line) (told e w))) w
+    by_test true = refl
+    by_test false = refl
+
+target_alone : (t : Target) (rule : Rule) (kind : LoadKind) (line : ℕ) (v : Value) (w : World) → MemoryAlone (end_of (store_at t rule kind line v w)) w
+target_alone dead_object rule kind line v w = refl
+target_alone too_far rule kind line v w = refl
+target_alone (at object o reaches.inside) rule kind line v w = refl
+target_alone (at object o reaches.own) rule kind line v w = refl
+target_alone (at object o reaches.outside) rule kind line v w =
+    put_alone rule line object (granule o) (write_cell kind o v (outside_cell w object (granule o))) w (stray_event line act.Store object o (bytes_of_kind kind))
+target_alone (at object o reaches.vanishing) rule kind line v w = refl
+
+pub all_else_stays : AllElseStays
+all_else_stays rule kind line p v d w =
+    target_alone (target rule w.objects p d (bytes_of_kind kind)) rule kind line v w
+
+-- ---- granules outside of objects
+
+put_others : (cap line object other : ℕ) (g h : ℤ) (cell : Cell) (w : World) → ¬ IsSameGranule object g other h → outside_cell (end_of (put_outside (unlimited cap) line object g cell w)) other h ≡ outside_cell w other h
+put_others cap line object other g h cell w ne = by_test (is_some (listed_cell object g w.outside) || nat_lt (length w.outside) cap)
+  where
+    by_test : (b : Bool) → outside_cell (end_of (if b then go nothing (record w { outside = put_first object g cell w.outside }) else stop (too_many line) w)) other h ≡ outside_cell w other h
+    by_test true =
+        ap (λ (c : Option Cell). unwrap_or c unset) (listed_is other h (put_first object g cell w.outside) ∙ other-put object g cell other h w.outside ne ∙ sym (listed_is other h w.outside))
+    by_test false = refl
+
+near_others : (cap : ℕ) (kind : LoadKind) (line object other : ℕ) (o h : ℤ) (r : Reach) (v : Value) (w : World) → ¬ IsSameGranule object (granule o) other h → outside_cell (end_of (store_at (at object o r) (unlimited cap) kind line v w)) other h ≡ outside_cell w other h
+near_others cap kind line object other o h reaches.inside v w ne = refl
+near_others cap kind line object other o h reaches.own v w ne = refl
+near_others cap kind line object other o h reaches.outside v w ne =
+    put_others cap line object other (granule o) h (write_cell kind o v (outside_cell w object (granule o))) (told (stray_event line act.Store object o (bytes_of_kind kind)) w) ne
+near_others cap kind line object other o h reaches.vanishing v w ne = refl
+
+pub other_outsides_stay : OtherOutsidesStay
+other_outsides_stay cap kind line object other offset d g v w ne =
+    by_target (λ t. outside_cell (end_of (store_at t (unlimited cap) kind line v w)) other g ≡ outside_cell w other g) (unlimited cap) w object offset d (bytes_of_kind kind) refl refl (near_others cap kind line object other (offset +ℤ d) g (reach true (object_at w.objects object).size (offset +ℤ d) (bytes_of_kind kind)) v w ne)
