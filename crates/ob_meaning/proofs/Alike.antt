@@ -1,9 +1,8 @@
 -- Two runs, one where objects are unlimited and one with a bounded list, go alike until the list drops a granule: their worlds
 -- differ in the order of the granules outside of objects alone. Where the first run ends because one granule too many would be
 -- kept, the second one drops a granule in that store, and goes on from there.
-use Rattle.std.proofs.Common.{◌≡◌, ℕ, zero, suc, ◌+◌, ◌<◌, ◌≤◌, Bool, true, false, cond, ℤ, List, [], ◌∷◌, ◌++◌, length, Option, Some, None, if◌then◌else◌, arith, refl, sym, subst, ◌∙◌, ap, append_assoc, append-nil}
+use Rattle.std.proofs.Common.{◌≡◌, ℕ, zero, suc, ◌≤◌, Bool, true, false, List, [], ◌++◌, length, Some, None, if◌then◌else◌, refl, sym, subst, ◌∙◌, ap, append_assoc, append-nil}
 use Rattle.ob_model.specs.declared.endings.Ending.{Ending}
-use Rattle.ob_model.specs.declared.endings.Ending.TheVariants.{Steps}
 use Rattle.ob_model.specs.Bounded.{Listed}
 use Rattle.ob_model.specs.Endings.{Begins, Finish, plain, dead, dropped}
 use Rattle.ob_meaning.specs.Expressions.{choose}

@@ -1,9 +1,8 @@
 -- Loads, stores, moves, comparisons, the heap and the built-in functions go alike with unlimited objects and with a bounded list.
-use Rattle.std.proofs.Common.{◌≡◌, ℕ, zero, suc, ◌+◌, ◌<◌, ◌≤◌, Bool, true, false, cond, ◌||◌, nat_lt, ℤ, pos, ◌+ℤ◌, List, [], ◌∷◌, ◌++◌, length, take, slice_get, is_some, unwrap_or, Option, Some, None, if◌then◌else◌, arith, refl, sym, subst, ◌∙◌, ap}
+use Rattle.std.proofs.Common.{◌≡◌, ℕ, zero, suc, ◌<◌, ◌≤◌, Bool, true, false, ◌||◌, nat_lt, ℤ, List, [], ◌∷◌, length, slice_get, is_some, unwrap_or, Option, Some, None, if◌then◌else◌, arith, refl, sym, subst, ◌∙◌, ap}
 use Rattle.std.proofs.lemmas.Bool.Decides.{nat_tests}
 use Rattle.std.proofs.lemmas.List.{take_all}
-use Rattle.std.proofs.lemmas.List.Sums.{count_by-le-length, length-filter}
-use Rattle.std.proofs.lemmas.Option.{slice_get_past, slice_get_cases}
+use Rattle.std.proofs.lemmas.Option.{slice_get_past}
 use Rattle.ob_model.specs.declared.strays.Act.{Act}
 use Rattle.ob_model.specs.declared.strays.Act.TheVariants as act
 use Rattle.ob_model.specs.declared.strays.StrayEvent.{StrayEvent}
@@ -11,14 +10,14 @@ use Rattle.ob_model.specs.declared.values.LoadKind.{LoadKind}
 use Rattle.ob_model.specs.declared.values.Value.{Value}
 use Rattle.ob_model.specs.Accesses.{Reach, bytes_of_kind, granule}
 use Rattle.ob_model.specs.Accesses as reaches
-use Rattle.ob_model.specs.Bounded.{Listed, after_load, after_store, dropped, listed_cell, put_first, surviving_cells, without_granule}
+use Rattle.ob_model.specs.Bounded.{Listed, after_load, after_store, dropped, listed_cell, put_first, without_granule}
 use Rattle.ob_model.specs.Cells.{unset}
 use Rattle.ob_model.specs.Endings.{dropped as too_many}
-use Rattle.ob_meaning.specs.Accesses.{Target, dead_object, too_far, at, target, outside_cell, first_drop, put_outside, take_made, or_made, load_own, load_outside, load_stray, store_own, store_outside, store_stray, told_if_stray, load_at, store_at, load, store}
+use Rattle.ob_meaning.specs.Accesses.{Target, dead_object, too_far, at, target, outside_cell, first_drop, put_outside, or_made, load_outside, load_stray, store_outside, store_stray, told_if_stray, load_at, store_at, load, store}
 use Rattle.ob_meaning.specs.Memory.{own_cell}
 use Rattle.ob_meaning.specs.Values.{Cell, nothing, read_cell, write_cell}
-use Rattle.ob_meaning.specs.World.{Rule, kept, unlimited, World, Run, stop, go, end_of, stray_event, told}
-use Rattle.ob_meaning.proofs.Alike.{Acts, Alike, Beside, HasDropped, IsLater, begins_more, begins_self, later_self, later_then, with_outside}
+use Rattle.ob_meaning.specs.World.{kept, unlimited, World, stop, go, end_of, stray_event, told}
+use Rattle.ob_meaning.proofs.Alike.{Acts, Alike, Beside, IsLater, begins_more, begins_self, later_self, later_then, with_outside}
 use Rattle.ob_meaning.proofs.OutsideLists.{cell_in, length-without, listed_is, without-none}
 use Rattle.ob_meaning.proofs.SameMaps.{SameMap, same-length, same-put, same-used}
 

@@ -1,5 +1,5 @@
 -- Expressions go alike with unlimited objects and with a bounded list.
-use Rattle.std.proofs.Common.{◌≡◌, ℕ, ◌+◌, ◌*◌, Bool, true, false, ℤ, pos, ◌+ℤ◌, List, [], ◌∷◌, Result, Ok, Err, refl}
+use Rattle.std.proofs.Common.{ℕ, ◌+◌, ◌*◌, true, false, ℤ, pos, ◌+ℤ◌, List, [], ◌∷◌, Result, Ok, Err, refl}
 use Rattle.ob_words.specs.declared.types.BinOp.{BinOp}
 use Rattle.ob_words.specs.declared.types.DivideByZero.{DivideByZero}
 use Rattle.ob_words.specs.declared.types.IntType.{IntType}
@@ -7,24 +7,22 @@ use Rattle.ob_words.specs.Operators.{binary, compare, shifts}
 use Rattle.ob_model.specs.declared.endings.Ending.TheVariants.{Divide}
 use Rattle.ob_model.specs.declared.values.Value.{Value}
 use Rattle.ob_model.specs.declared.values.Value.TheVariants as value_of
-use Rattle.ob_model.specs.Bounded.{Listed}
-use Rattle.ob_model.specs.Endings.{plain}
 use Rattle.ob_tree.specs.Types.{PlainType}
 use Rattle.ob_typed.specs.declared.names.Builtin.{Builtin}
 use Rattle.ob_typed.specs.declared.names.Builtin.TheVariants as builtin
-use Rattle.ob_typed.specs.TypedTree.{TypedExpr, TypedExprs, TypedLean, TypedNode, TypedPlace}
+use Rattle.ob_typed.specs.TypedTree.{TypedExpr, TypedExprs, TypedLean, TypedNode}
 use Rattle.ob_typed.specs.TypedTree.TypedExpr.{Typed}
 use Rattle.ob_typed.specs.TypedTree.TypedExprs.{NoArguments, Argument}
 use Rattle.ob_typed.specs.TypedTree.{TypedLean as at, TypedNode as node}
 use Rattle.ob_typed.specs.TypedTree.TypedPlace.{Place}
-use Rattle.ob_meaning.specs.Expressions.{Based, arithmetic, arithmetic_in, argument, at_object, at_value, based, built_in, choose, computed, converted, copy_scalar, copy_scalars, further, load_based, node_value, older_if, right_operand, store_based, tested, value, values}
+use Rattle.ob_meaning.specs.Expressions.{Based, arithmetic, argument, at_object, at_value, based, built_in, computed, converted, copy_scalar, copy_scalars, further, load_based, node_value, older_if, right_operand, store_based, value, values}
 use Rattle.ob_meaning.specs.Heap.{byte_count}
-use Rattle.ob_meaning.specs.Pointers.{formed, stride}
+use Rattle.ob_meaning.specs.Pointers.{stride}
 use Rattle.ob_meaning.specs.Scalars.{Scalar, scalars_of}
 use Rattle.ob_meaning.specs.Setup.{Below, Loop, Setup, first_local, kind_of, number_type}
-use Rattle.ob_meaning.specs.Values.{Cell, is_true, nothing, number_of, truth}
-use Rattle.ob_meaning.specs.World.{World, Run, stop, go, bind, step, kept, unlimited}
-use Rattle.ob_meaning.proofs.Alike.{Acts, bind_acts, choose_acts, go_acts, later_self, step_acts, stop_acts, with_outside}
+use Rattle.ob_meaning.specs.Values.{is_true, nothing, number_of, truth}
+use Rattle.ob_meaning.specs.World.{go, kept, unlimited}
+use Rattle.ob_meaning.proofs.Alike.{Acts, bind_acts, choose_acts, go_acts, later_self, step_acts, stop_acts}
 use Rattle.ob_meaning.proofs.AlikeAccesses.{load_acts, store_acts}
 use Rattle.ob_meaning.proofs.AlikePointers.{allocated_acts, compared_acts, exited_acts, formed_acts, free_acts, move_acts, read_acts, subtracted_acts, write_acts}
 
@@ -57,8 +55,8 @@ module _ (cap : ℕ) (u : Setup) where
   copy_scalar_acts : (line : ℕ) (to from : Based) (s : Scalar) → Acts cap (copy_scalar (wide cap u) line to from s) (copy_scalar (tight cap u) line to from s)
   copy_scalar_acts line to from s =
       formed_acts cap (from.displacement +ℤ pos s.offset) _ _ (λ d.
-          bind_acts cap _ _ _ _ (load_acts cap u.cycle s.kind line from.base d) (λ v.
-              formed_acts cap (to.displacement +ℤ pos s.offset) _ _ (λ e. store_acts cap s.kind line to.base e v)))
+      bind_acts cap _ _ _ _ (load_acts cap u.cycle s.kind line from.base d) (λ v.
+      formed_acts cap (to.displacement +ℤ pos s.offset) _ _ (λ e. store_acts cap s.kind line to.base e v)))
 
   pub copy_scalars_acts : (line : ℕ) (to from : Based) (ss : List Scalar) → Acts cap (copy_scalars (wide cap u) line to from ss) (copy_scalars (tight cap u) line to from ss)
   copy_scalars_acts line to from [] = go_acts cap nothing
@@ -99,17 +97,17 @@ module _ (cap : ℕ) (u : Setup) where
           bind_acts cap _ _ _ _ (value_acts a) (λ x. bind_acts cap _ _ _ _ (value_acts b) (λ y. arithmetic_acts op t x y))
       node_acts line (node.Compare r a b) =
           bind_acts cap _ _ _ _ (value_acts a) (λ x.
-              bind_acts cap _ _ _ _ (value_acts b) (λ y. go_acts cap (truth (compare r (number_of x) (number_of y)))))
+          bind_acts cap _ _ _ _ (value_acts b) (λ y. go_acts cap (truth (compare r (number_of x) (number_of y)))))
       node_acts line (node.PtrCompare r a b) =
           bind_acts cap _ _ _ _ (value_acts a) (λ x. bind_acts cap _ _ _ _ (value_acts b) (λ y. compared_acts cap r line x y))
       node_acts line (node.PtrDiff size a b) =
           bind_acts cap _ _ _ _ (value_acts a) (λ x. bind_acts cap _ _ _ _ (value_acts b) (λ y. subtracted_acts cap size line x y))
       node_acts line (node.And a b) =
           bind_acts cap _ _ _ _ (value_acts a) (λ x.
-              choose_acts cap (is_true x) _ _ _ _ (bind_acts cap _ _ _ _ (value_acts b) (λ y. go_acts cap (truth (is_true y)))) (go_acts cap (truth false)))
+          choose_acts cap (is_true x) _ _ _ _ (bind_acts cap _ _ _ _ (value_acts b) (λ y. go_acts cap (truth (is_true y)))) (go_acts cap (truth false)))
       node_acts line (node.Or a b) =
           bind_acts cap _ _ _ _ (value_acts a) (λ x.
-              choose_acts cap (is_true x) _ _ _ _ (go_acts cap (truth true)) (bind_acts cap _ _ _ _ (value_acts b) (λ y. go_acts cap (truth (is_true y)))))
+          choose_acts cap (is_true x) _ _ _ _ (go_acts cap (truth true)) (bind_acts cap _ _ _ _ (value_acts b) (λ y. go_acts cap (truth (is_true y)))))
       node_acts line (node.Cond a b c) =
           bind_acts cap _ _ _ _ (value_acts a) (λ x. choose_acts cap (is_true x) _ _ _ _ (value_acts b) (value_acts c))
       node_acts line (node.Comma a b) = bind_acts cap _ _ _ _ (value_acts a) (λ x. value_acts b)
@@ -117,21 +115,21 @@ module _ (cap : ℕ) (u : Setup) where
           bind_acts cap _ _ _ _ (based_acts lean) (λ b. bind_acts cap _ _ _ _ (value_acts e) (λ v. store_based_acts ty line b v))
       node_acts line (node.Update op t post (Place own_line ty lean) e) =
           bind_acts cap _ _ _ _ (based_acts lean) (λ b.
-              bind_acts cap _ _ _ _ (load_based_acts ty line b) (λ x.
-                  bind_acts cap _ _ _ _ (value_acts e) (λ y.
-                      bind_acts cap _ _ _ _ (arithmetic_acts op t (converted t x) (right_operand (shifts op) t y)) (λ z.
-                          bind_acts cap _ _ _ _ (store_based_acts ty line b (converted (number_type ty) z)) (λ v.
-                              go_acts cap (older_if post x v))))))
+          bind_acts cap _ _ _ _ (load_based_acts ty line b) (λ x.
+          bind_acts cap _ _ _ _ (value_acts e) (λ y.
+          bind_acts cap _ _ _ _ (arithmetic_acts op t (converted t x) (right_operand (shifts op) t y)) (λ z.
+          bind_acts cap _ _ _ _ (store_based_acts ty line b (converted (number_type ty) z)) (λ v.
+          go_acts cap (older_if post x v))))))
       node_acts line (node.PtrUpdate scale minus post (Place own_line ty lean) e) =
           bind_acts cap _ _ _ _ (based_acts lean) (λ b.
-              bind_acts cap _ _ _ _ (load_based_acts ty line b) (λ x.
-                  bind_acts cap _ _ _ _ (value_acts e) (λ k.
-                      formed_acts cap (stride minus scale (number_of k)) _ _ (λ d.
-                          bind_acts cap _ _ _ _ (move_acts cap u.settings.away line x d) (λ p.
-                              bind_acts cap _ _ _ _ (store_based_acts ty line b p) (λ v. go_acts cap (older_if post x v)))))))
+          bind_acts cap _ _ _ _ (load_based_acts ty line b) (λ x.
+          bind_acts cap _ _ _ _ (value_acts e) (λ k.
+          formed_acts cap (stride minus scale (number_of k)) _ _ (λ d.
+          bind_acts cap _ _ _ _ (move_acts cap u.settings.away line x d) (λ p.
+          bind_acts cap _ _ _ _ (store_based_acts ty line b p) (λ v. go_acts cap (older_if post x v)))))))
       node_acts line (node.CopyStruct (Place own_line ty lean) (Place from_line from_type from_lean)) =
           bind_acts cap _ _ _ _ (based_acts lean) (λ to.
-              bind_acts cap _ _ _ _ (based_acts from_lean) (λ from. copy_scalars_acts line to from (scalars_of u.program.structs ty)))
+          bind_acts cap _ _ _ _ (based_acts from_lean) (λ from. copy_scalars_acts line to from (scalars_of u.program.structs ty)))
       node_acts line (node.Call f es) =
           bind_acts cap _ _ _ _ (values_acts es) (λ vs. step_acts cap _ _ (below.call f vs))
       node_acts line (node.CallBuiltin f es) =
@@ -143,10 +141,10 @@ module _ (cap : ℕ) (u : Setup) where
       based_acts (at.Value e) = bind_acts cap _ _ _ _ (value_acts e) (λ p. go_acts cap (at_value p))
       based_acts (at.Slide lean scale minus false e) =
           bind_acts cap _ _ _ _ (based_acts lean) (λ b.
-              bind_acts cap _ _ _ _ (value_acts e) (λ k. further_acts b (stride minus scale (number_of k))))
+          bind_acts cap _ _ _ _ (value_acts e) (λ k. further_acts b (stride minus scale (number_of k))))
       based_acts (at.Slide lean scale minus true e) =
           bind_acts cap _ _ _ _ (value_acts e) (λ k.
-              bind_acts cap _ _ _ _ (based_acts lean) (λ b. further_acts b (stride minus scale (number_of k))))
+          bind_acts cap _ _ _ _ (based_acts lean) (λ b. further_acts b (stride minus scale (number_of k))))
       based_acts (at.Member lean offset) =
           bind_acts cap _ _ _ _ (based_acts lean) (λ b. further_acts b (pos offset))
 

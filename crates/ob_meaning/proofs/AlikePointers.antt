@@ -1,13 +1,13 @@
 -- Moves, comparisons, the heap, input and output go alike with unlimited objects and with a bounded list: none of them sees
 -- the granules outside of objects, but that a death takes those of an object away.
-use Rattle.std.proofs.Common.{◌≡◌, ℕ, zero, suc, ◌+◌, ◌<◌, ◌≤◌, ◌==◌, ◌&&◌, Bool, true, false, not, nat_lt, ℤ, pos, ◌+ℤ◌, List, [], ◌∷◌, ◌++◌, length, Option, Some, None, if◌then◌else◌, arith, refl, sym, subst, ◌∙◌, unsigned_abs}
+use Rattle.std.proofs.Common.{◌≡◌, ℕ, ◌≤◌, ◌==◌, ◌&&◌, Bool, not, nat_lt, ℤ, pos, ◌+ℤ◌, List, [], ◌∷◌, length, Option, Some, None, if◌then◌else◌, arith, refl, sym, subst, unsigned_abs}
 use Rattle.std.specs.Ordering.{int_eq}
 use Rattle.std.proofs.lemmas.List.Sums.{count_by-le-length, length-filter}
 use Rattle.ob_words.specs.declared.types.IntType.TheVariants.{UChar, Int, Long}
 use Rattle.ob_words.specs.declared.types.Relation.{Relation}
 use Rattle.ob_words.specs.declared.types.Relation.TheVariants as relation
 use Rattle.ob_words.specs.Conversion.{convert}
-use Rattle.ob_model.specs.declared.endings.Ending.TheVariants.{Ended, Far, Descriptors, ReadFault}
+use Rattle.ob_model.specs.declared.endings.Ending.TheVariants.{Ended, Far, Descriptors}
 use Rattle.ob_model.specs.declared.strays.Act.TheVariants as act
 use Rattle.ob_model.specs.declared.values.Value.{Value}
 use Rattle.ob_model.specs.declared.values.Value.TheVariants as value

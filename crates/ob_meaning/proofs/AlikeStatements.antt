@@ -1,11 +1,9 @@
 -- Initialisers, statements and calls go alike with unlimited objects and with a bounded list, and so do whole runs.
-use Rattle.std.proofs.Common.{◌≡◌, ℕ, zero, suc, ◌+◌, ◌≤◌, Bool, true, false, ℤ, pos, List, [], ◌∷◌, ◌++◌, length, nat_lt, Option, Some, None, refl}
-use Rattle.ob_words.specs.declared.types.IntType.{IntType}
+use Rattle.std.proofs.Common.{ℕ, zero, suc, ◌+◌, true, pos, List, [], ◌∷◌, length, nat_lt, Option, Some, None, refl}
 use Rattle.ob_model.specs.declared.endings.Ending.TheVariants.{Stack, Steps}
 use Rattle.ob_model.specs.declared.values.Value.{Value}
 use Rattle.ob_model.specs.declared.values.Value.TheVariants as value_of
 use Rattle.ob_model.specs.Bounded.{Listed, surviving_cells}
-use Rattle.ob_model.specs.Endings.{plain}
 use Rattle.ob_tree.specs.Types.{PlainType}
 use Rattle.ob_tree.specs.Types.PlainType.{Void, Int, Pointer, Array, Struct}
 use Rattle.ob_typed.specs.TypedTree.{TypedExpr, TypedInit, TypedInits, TypedStmt, TypedStmts}
@@ -15,14 +13,14 @@ use Rattle.ob_typed.specs.TypedTree.TypedInits.{NoItems, Item}
 use Rattle.ob_typed.specs.TypedTree.TypedPlace.{Place}
 use Rattle.ob_typed.specs.TypedTree.TypedStmts.{NoStmts, Stmt}
 use Rattle.ob_meaning.specs.Calls.{allowance_of, allowances, below, called, entered, left, left_to, result_of, returned, stack_bytes}
-use Rattle.ob_meaning.specs.Expressions.{Based, at_object, choose, converted, value}
+use Rattle.ob_meaning.specs.Expressions.{Based, at_object, converted}
 use Rattle.ob_meaning.specs.Initialisers.{cleared, initialise, initialise_items, initialise_local, local_type, store_characters}
 use Rattle.ob_meaning.specs.Memory.{is_among}
 use Rattle.ob_meaning.specs.Scalars.{part_of, scalars_of}
 use Rattle.ob_meaning.specs.Setup.{Below, Flow, next, broke, continued, gave, Loop, Setup, first_local, function_at, number_type}
-use Rattle.ob_meaning.specs.Statements.{dropped, exec, exec_all, goes_on, loop_of, looped, loops_on, optional, start_all, start_one, then_do, then_turn, turn, turns}
+use Rattle.ob_meaning.specs.Statements.{dropped, exec, exec_all, goes_on, loop_of, looped, loops_on, optional, start_all, start_one, then_do, turn, turns}
 use Rattle.ob_meaning.specs.Values.{Cell, is_true, nothing, truth}
-use Rattle.ob_meaning.specs.World.{World, Call, Run, stop, go, end_of, bind, step, without}
+use Rattle.ob_meaning.specs.World.{World, Call, Run, go}
 use Rattle.ob_meaning.proofs.Alike.{Acts, Alike, Beside, IsLater, bind_acts, choose_acts, go_acts, later_self, step_acts, stop_acts, with_outside}
 use Rattle.ob_meaning.proofs.AlikeExpressions.{BelowActs, based_acts, copy_scalars_acts, further_acts, store_based_acts, tight, value_acts, wide}
 use Rattle.ob_meaning.proofs.AlikePointers.{beside_without}
@@ -32,8 +30,8 @@ module _ (cap : ℕ) (u : Setup) where
   characters_acts ty b [] i = go_acts cap nothing
   characters_acts ty b (c ∷ cs) i =
       bind_acts cap _ _ _ _ (further_acts cap u b (pos i)) (λ at.
-          bind_acts cap _ _ _ _ (store_based_acts cap u ty 0 at (converted (number_type ty) (value_of.Num (pos c)))) (λ v.
-              characters_acts ty b cs (i + 1)))
+      bind_acts cap _ _ _ _ (store_based_acts cap u ty 0 at (converted (number_type ty) (value_of.Num (pos c)))) (λ v.
+      characters_acts ty b cs (i + 1)))
 
   module _ (m n : Below) (below : BelowActs cap u m n) where
     mutual
@@ -44,13 +42,13 @@ module _ (cap : ℕ) (u : Setup) where
       initialise_acts (init.Items items) ty b = items_acts items ty b 0
       initialise_acts (init.Copy (Place line t lean)) ty b =
           bind_acts cap _ _ _ _ (based_acts cap u m n below lean) (λ from.
-              copy_scalars_acts cap u line b from (scalars_of u.program.structs ty))
+          copy_scalars_acts cap u line b from (scalars_of u.program.structs ty))
 
       items_acts : (items : TypedInits) (ty : PlainType) (b : Based) (i : ℕ) → Acts cap (initialise_items (wide cap u) m ty b items i) (initialise_items (tight cap u) n ty b items i)
       items_acts NoItems ty b i = go_acts cap nothing
       items_acts (Item head tail) ty b i =
           bind_acts cap _ _ _ _ (further_acts cap u b (pos (part_of u.program.structs ty i).offset)) (λ at.
-              bind_acts cap _ _ _ _ (initialise_acts head (part_of u.program.structs ty i).ty at) (λ v. items_acts tail ty b (i + 1)))
+          bind_acts cap _ _ _ _ (initialise_acts head (part_of u.program.structs ty i).ty at) (λ v. items_acts tail ty b (i + 1)))
 
     -- a local object is cleared first
     cleared_acts : (ty t : PlainType) (object : ℕ) (item : TypedInit) → Acts cap (λ w. initialise (wide cap u) m ty (at_object object) item (cleared t object w)) (λ w. initialise (tight cap u) n ty (at_object object) item (cleared t object w))
@@ -137,10 +135,10 @@ module _ (cap : ℕ) (u : Setup) where
       exec_acts (stmt.Init i item) = dropped_acts _ _ (local_init_acts i item)
       exec_acts (stmt.If e s) =
           step_acts cap _ _ (bind_acts cap _ _ _ _ (value_acts cap u m n below e) (λ x.
-              choose_acts cap (is_true x) _ _ _ _ (exec_acts s) (go_acts cap next)))
+          choose_acts cap (is_true x) _ _ _ _ (exec_acts s) (go_acts cap next)))
       exec_acts (stmt.IfElse e s t) =
           step_acts cap _ _ (bind_acts cap _ _ _ _ (value_acts cap u m n below e) (λ x.
-              choose_acts cap (is_true x) _ _ _ _ (exec_acts s) (exec_acts t)))
+          choose_acts cap (is_true x) _ _ _ _ (exec_acts s) (exec_acts t)))
       exec_acts (stmt.While e s) =
           step_acts cap _ _ (looped_acts _ _ _ _ (value_acts cap u m n below e) (turn_acts _ _ _ _ _ _ (exec_acts s) (go_acts cap nothing) (below.turns (loop_of (Some e) None s))))
       exec_acts (stmt.Do s e) =

@@ -1,14 +1,11 @@
 -- A bounded run goes as the unlimited one up to its first drop.
-use Rattle.std.proofs.Common.{◌≡◌, ℕ, ◌≤◌, List, [], ◌∷◌, length, Some, None, arith, refl, ◌∙◌, ap}
-use Rattle.ob_model.specs.declared.settings.RunSettings.{RunSettings}
+use Rattle.std.proofs.Common.{ℕ, List, [], arith, refl, ◌∙◌, ap}
 use Rattle.ob_model.specs.declared.values.Value.{Value}
-use Rattle.ob_model.specs.Endings.{Agrees, Finish, InputEnd, Outcome, plain, dead, dropped}
-use Rattle.ob_typed.specs.TypedTree.{TypedProgram}
-use Rattle.ob_meaning.specs.Calls.{below}
+use Rattle.ob_model.specs.Endings.{plain, dead, dropped}
 use Rattle.ob_meaning.specs.FirstDrop.{GoesOnFrom, RunsAreAlikeToTheFirstDrop}
 use Rattle.ob_meaning.specs.Runs.{finish_of, first_world, outcome_of, run, setup_of}
 use Rattle.ob_meaning.specs.Setup.{Setup}
-use Rattle.ob_meaning.specs.World.{World, Run, stop, go, end_of, vanish}
+use Rattle.ob_meaning.specs.World.{Run, stop, go, end_of, vanish}
 use Rattle.ob_meaning.proofs.Alike.{Alike, step_acts}
 use Rattle.ob_meaning.proofs.AlikeExpressions.{tight, wide}
 use Rattle.ob_meaning.proofs.AlikeStatements.{below_acts}

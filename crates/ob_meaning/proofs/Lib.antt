@@ -8,3 +8,4 @@ pub mod AlikeStatements
 pub mod FirstDrop
 pub mod Stores
 pub mod Strays
+pub mod ReadBack

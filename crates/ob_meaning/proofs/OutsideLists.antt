@@ -1,11 +1,11 @@
 -- Lists of granules outside of objects as finite maps: each lists a granule once at most, and two of them are the same map
 -- where they list the same cells, in whatever order.
-use Rattle.std.proofs.Common.{◌≡◌, ℕ, zero, suc, ◌+◌, ◌<◌, ◌≤◌, ◌==◌, ◌&&◌, ◌⊎◌, inl, inr, Bool, true, false, not, cond, ℤ, List, [], ◌∷◌, length, Option, Some, None, arith, refl, sym, subst, ◌∙◌, ap}
+use Rattle.std.proofs.Common.{◌≡◌, ℕ, suc, ◌==◌, ◌&&◌, ◌⊎◌, inl, inr, Bool, true, false, not, cond, ℤ, List, [], ◌∷◌, length, Option, Some, None, refl, sym, subst, ◌∙◌, ap}
 use Rattle.std.specs.List.{find}
 use Rattle.std.specs.Option.{option_map}
 use Rattle.std.specs.Ordering.{int_eq}
-use Rattle.std.proofs.lemmas.Bool.Decides.{nat_tests, Decides-int_eq, Decides-eqb}
-use Rattle.ob_model.specs.Bounded.{Listed, is_of, without_granule, listed_cell, put_first, after_load, moved_to_front, surviving_cells}
+use Rattle.std.proofs.lemmas.Bool.Decides.{Decides-int_eq, Decides-eqb}
+use Rattle.ob_model.specs.Bounded.{Listed, is_of, without_granule, listed_cell}
 
 -- ---- tests
 

@@ -1,10 +1,7 @@
 -- Two lists of granules that are one map stay so: by a store, by the use of one of them, and by a death.
-use Rattle.std.proofs.Common.{◌≡◌, ℕ, zero, suc, ◌+◌, ◌<◌, ◌≤◌, ◌⊎◌, inl, inr, Bool, true, false, not, cond, ℤ, List, [], ◌∷◌, length, take, slice_get, is_some, Option, Some, None, arith, refl, sym, ◌∙◌, ap}
-use Rattle.std.specs.List.{filter}
-use Rattle.std.proofs.lemmas.List.{take_all}
-use Rattle.std.proofs.lemmas.Option.{slice_get_past, slice_get_cases}
-use Rattle.ob_model.specs.Bounded.{Listed, is_of, without_granule, listed_cell, put_first, after_load, after_store, dropped, moved_to_front, surviving_cells}
-use Rattle.ob_meaning.proofs.OutsideLists.{IsKey, IsUnique, at_key, cell_in, cell-without, cond_true, cond_false, is_of_key, key_is_of, keys, length-without, listed_is, other-without, other_is_not_of, unique-without, without-none}
+use Rattle.std.proofs.Common.{◌≡◌, ℕ, suc, ◌⊎◌, inl, inr, Bool, true, false, not, cond, ℤ, List, [], ◌∷◌, length, Option, Some, None, refl, sym, ◌∙◌, ap}
+use Rattle.ob_model.specs.Bounded.{Listed, is_of, without_granule, listed_cell, put_first, after_load, moved_to_front, surviving_cells}
+use Rattle.ob_meaning.proofs.OutsideLists.{IsKey, IsUnique, at_key, cell_in, cell-without, cond_true, cond_false, is_of_key, key_is_of, keys, length-without, listed_is, other-without, other_is_not_of, unique-without}
 
 pub record SameMap {C : Type 0} (es ks : List (Listed C)) : Type 0 where
   pub left : IsUnique es

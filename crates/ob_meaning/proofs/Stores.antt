@@ -1,6 +1,5 @@
 -- What stores leave as it was.
-use Rattle.std.proofs.Common.{◌≡◌, ◌≢◌, ℕ, zero, suc, ◌+◌, ◌/◌, ◌<◌, ◌≤◌, ◌⊎◌, inl, inr, Bool, true, false, not, cond, ◌&&◌, ◌||◌, nat_lt, ℤ, pos, negsuc, ◌+ℤ◌, unsigned_abs, List, [], ◌∷◌, length, is_some, unwrap_or, Option, Some, None, if◌then◌else◌, slice_index_or, slice_set, arith, refl, sym, subst, ◌∙◌, ap}
-use Rattle.ob_model.specs.declared.strays.Act.{Act}
+use Rattle.std.proofs.Common.{◌≡◌, ℕ, zero, suc, ◌/◌, ◌⊎◌, inl, inr, Bool, true, false, not, ◌&&◌, ◌||◌, nat_lt, ℤ, pos, negsuc, ◌+ℤ◌, List, [], ◌∷◌, length, is_some, unwrap_or, Option, if◌then◌else◌, slice_index_or, slice_set, refl, sym, subst, ◌∙◌, ap}
 use Rattle.ob_model.specs.declared.strays.Act.TheVariants as act
 use Rattle.ob_model.specs.declared.strays.StrayEvent.{StrayEvent}
 use Rattle.ob_model.specs.declared.values.LoadKind.{LoadKind}
@@ -12,10 +11,10 @@ use Rattle.ob_model.specs.Bounded.{listed_cell, put_first}
 use Rattle.ob_model.specs.Cells.{unset, zeros}
 use Rattle.ob_model.specs.Endings.{dropped as too_many}
 use Rattle.ob_meaning.specs.Accesses.{Target, dead_object, too_far, at, keeps, outside_cell, put_outside, store_at, target}
-use Rattle.ob_meaning.specs.Memory.{Object, is_dead, no_object, object_at, own_cell, with_own, with_own_cell}
+use Rattle.ob_meaning.specs.Memory.{Object, no_object, object_at, own_cell, with_own, with_own_cell}
 use Rattle.ob_meaning.specs.MemoryLaws.{AllElseStays, IsSameGranule, OtherGranulesStay, OtherOutsidesStay, SizesAndLivesStay}
 use Rattle.ob_meaning.specs.Values.{Cell, nothing, write_cell}
-use Rattle.ob_meaning.specs.World.{Rule, vanish, kept, unlimited, World, Run, stop, go, end_of, stray_event, told}
+use Rattle.ob_meaning.specs.World.{Rule, vanish, kept, unlimited, World, stop, go, end_of, stray_event, told}
 use Rattle.ob_meaning.proofs.OutsideLists.{listed_is}
 use Rattle.ob_meaning.proofs.SameMaps.{other-put}
 
@@ -38,7 +37,7 @@ set_other l i j a d ne = elim (set_cases l i j a d) [ inl same ↦ same | inr h 
 own_other : (objects : List Object) (object other q g : ℕ) (cell : Cell) → ((object ≡ other) × (q ≡ g) → ⊥) → own_cell (with_own_cell objects object (pos q) cell) other (pos g) ≡ own_cell objects other (pos g)
 own_other objects object other q g cell ne =
     elim (set_cases objects object other (with_own (object_at objects object) (pos q) cell) no_object) [
-      inl same ↦ ap (λ (o : Object). slice_index_or o.own g zeros) same
+      | inl same ↦ ap (λ (o : Object). slice_index_or o.own g zeros) same
       | inr h ↦ ap (λ (o : Object). slice_index_or o.own g zeros) h.1
           ∙ set_other (object_at objects object).own q g cell zeros (λ e. ne (h.0, e))
           ∙ ap (λ (i : ℕ). slice_index_or (object_at objects i).own g zeros) h.0
@@ -47,11 +46,11 @@ own_other objects object other q g cell ne =
 size_same : (objects : List Object) (object other : ℕ) (q : ℤ) (cell : Cell) → ((object_at (with_own_cell objects object q cell) other).size ≡ (object_at objects other).size) × ((object_at (with_own_cell objects object q cell) other).alive ≡ (object_at objects other).alive)
 size_same objects object other q cell =
     elim (set_cases objects object other (with_own (object_at objects object) q cell) no_object) [
-      inl same ↦ (ap (λ (o : Object). o.size) same, ap (λ (o : Object). o.alive) same)
+      | inl same ↦ (ap (λ (o : Object). o.size) same, ap (λ (o : Object). o.alive) same)
       | inr h ↦ (
-          ap (λ (o : Object). o.size) h.1 ∙ ap (λ (i : ℕ). (object_at objects i).size) h.0,
-          ap (λ (o : Object). o.alive) h.1 ∙ ap (λ (i : ℕ). (object_at objects i).alive) h.0,
-        )
+        ap (λ (o : Object). o.size) h.1 ∙ ap (λ (i : ℕ). (object_at objects i).size) h.0,
+        ap (λ (o : Object). o.alive) h.1 ∙ ap (λ (i : ℕ). (object_at objects i).alive) h.0,
+      )
     ]
 
 -- ---- where a store goes

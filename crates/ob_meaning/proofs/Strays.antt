@@ -1,5 +1,5 @@
 -- What stray accesses do, and what the deaths of objects take away.
-use Rattle.std.proofs.Common.{◌≡◌, ℕ, zero, suc, ◌+◌, ◌<◌, ◌≤◌, Bool, true, false, not, cond, ◌&&◌, ℤ, pos, negsuc, ◌+ℤ◌, List, [], ◌∷◌, length, Option, Some, None, if◌then◌else◌, slice_index_or, arith, refl, sym, subst, ◌∙◌, ap}
+use Rattle.std.proofs.Common.{◌≡◌, ℕ, zero, suc, ◌+◌, Bool, true, false, not, ◌&&◌, ℤ, ◌+ℤ◌, List, [], ◌∷◌, Option, None, if◌then◌else◌, slice_index_or, arith, refl, sym, subst, ◌∙◌, ap}
 use Rattle.std.proofs.lemmas.List.Sums.{length-filter}
 use Rattle.ob_model.specs.declared.strays.Act.TheVariants as act
 use Rattle.ob_model.specs.declared.values.LoadKind.{LoadKind}
@@ -7,13 +7,12 @@ use Rattle.ob_model.specs.declared.values.Value.{Value}
 use Rattle.ob_model.specs.declared.values.Value.TheVariants as value
 use Rattle.ob_model.specs.Accesses.{Reach, bytes_of_kind, granule, is_aligned, is_far, is_own, is_stray, reach, reach_if, stray_reach}
 use Rattle.ob_model.specs.Accesses as reaches
-use Rattle.ob_model.specs.Bounded.{listed_cell, surviving_cells}
+use Rattle.ob_model.specs.Bounded.{surviving_cells}
 use Rattle.ob_model.proofs.Astray.{strays_vanish}
-use Rattle.ob_meaning.specs.Accesses.{Target, dead_object, too_far, at, keeps, load_at, or_made, outside_cell, store_at, target}
+use Rattle.ob_meaning.specs.Accesses.{Target, dead_object, too_far, at, keeps, load_at, or_made, store_at, target}
 use Rattle.ob_meaning.specs.Memory.{Object, dead_if, no_object, object_at, with_deaths}
 use Rattle.ob_meaning.specs.MemoryLaws.{DeadAreNotAlive, GoesAstray, GoesOutside, GranulesOfTheDeadDoNotCount, GranulesOfTheDeadLeave, Reaches, SetBytesTakeNone, StrayLoadsTakeOne, StrayStoresVanish, UnsetByteTakesOne, event_of}
-use Rattle.ob_meaning.specs.Values.{Cell, read_cell}
-use Rattle.ob_meaning.specs.World.{Rule, vanish, unlimited, World, Run, go, told, without}
+use Rattle.ob_meaning.specs.World.{Rule, vanish, unlimited, World, told}
 use Rattle.ob_meaning.proofs.OutsideLists.{cell_in, cond_false, cond_true, listed_is}
 use Rattle.ob_meaning.proofs.SameMaps.{cell-surviving}
 

@@ -1,5 +1,5 @@
 -- Laws of accesses and deaths, in the subject's own words.
-use Rattle.std.specs.Prelude.{◌≡◌, ℕ, Bool, true, false, not, ◌&&◌, ℤ, pos, ◌+ℤ◌, List, length, All, Option, Some, None}
+use Rattle.std.specs.Prelude.{◌≡◌, ℕ, Bool, true, false, not, ◌&&◌, ℤ, pos, ◌+ℤ◌, List, length, All, Some, None}
 use Rattle.std.specs.List.{count_by}
 use Rattle.ob_words.specs.Conversion.{convert}
 use Rattle.ob_model.specs.declared.strays.Act.{Act}

@@ -9,7 +9,7 @@ use Rattle.ob_meaning.specs.Expressions.{choose, value}
 use Rattle.ob_meaning.specs.Initialisers.{initialise_local}
 use Rattle.ob_meaning.specs.Setup.{Below, Flow, next, broke, continued, gave, Loop, Setup}
 use Rattle.ob_meaning.specs.Values.{is_true, nothing, truth}
-use Rattle.ob_meaning.specs.World.{World, Run, stop, go, bind, step}
+use Rattle.ob_meaning.specs.World.{World, Run, go, bind, step}
 
 -- goes on where a statement has run to its end
 abbrev pub goes_on : (World → Run Flow) → Flow → World → Run Flow

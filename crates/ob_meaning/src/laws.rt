@@ -1,5 +1,6 @@
 ghost use Rattle.ob_meaning.specs.World.{vanish, kept, unlimited};
 ghost use Rattle.ob_meaning.specs.ExampleRuns.{OverrunReads, StrayStoreVanishes, StrayStoreIsKept, NeighbourIsUntouched, NumberAtNull, IllAlignedVanishes, LastGranule, PointerIsLost, DropChangesAnswer, UnlimitedEndsAtDrop, FirstDropIsTold, RecentUseKeeps, PointerComesBack, PointersAreEqualByObject, PointersAreCounted, OffsetsAreBounded, FreedPlaceIsTaken, HeapIsFull, UseAfterFreeEnds, OtherFreesAreTold, DivisionByZeroEnds, StepsRunOut, StackIsBounded, InputEnds};
+ghost use Rattle.ob_meaning.specs.MemoryLaws.{OtherGranulesStay, OtherOutsidesStay, SizesAndLivesStay, AllElseStays, StoredIsLoaded, StrayStoresVanish, StrayLoadsTakeOne, UnsetByteTakesOne, SetBytesTakeNone, DeadAreNotAlive, GranulesOfTheDeadLeave, GranulesOfTheDeadDoNotCount};
 ghost use Rattle.ob_meaning.specs.FirstDrop.{RunsAreAlikeToTheFirstDrop};
 ghost use Rattle.ob_meaning.specs.LineExample.{LineIsCut, LineIsWhole};
 ghost use Rattle.ob_meaning.specs.ControlRuns.{LeastSteps, LoopsTakeSteps, ChoicesSkip, CallsRecur, DanglingPointerEnds, ExitEnds, EndsGiveZeroOrNull, StaticsHoldPointers, ArraysAreInitialised, StepsGiveOldOrNew, PointersWalk, StructuresAreCopied, ScalarsGoAstray};
@@ -96,4 +97,36 @@ pub fn law_line()
 /// the first that drops.
 pub fn law_first_drop()
     ensures { RunsAreAlikeToTheFirstDrop }
+{}
+
+/// A store through a pointer changes at most one granule of that pointer's object, or one granule outside
+/// of it. Each other granule of that object and of every other stays, and so do sizes, lives and all that
+/// is no memory.
+pub fn law_stores()
+    ensures granules { OtherGranulesStay }
+    ensures outsides { OtherOutsidesStay }
+    ensures lives { SizesAndLivesStay }
+    ensures rest { AllElseStays }
+{}
+
+/// What is stored inside of an object is loaded again, converted to the type, and pointers as they are.
+pub fn law_loads()
+    ensures { StoredIsLoaded }
+{}
+
+/// Where stray accesses vanish, a stray store changes no memory and a stray load takes exactly one
+/// manufactured value. Where objects are unlimited, a load outside takes exactly one where it meets an
+/// unset byte, and else none.
+pub fn law_strays()
+    ensures stores { StrayStoresVanish }
+    ensures loads { StrayLoadsTakeOne }
+    ensures unset { UnsetByteTakesOne }
+    ensures set { SetBytesTakeNone }
+{}
+
+/// When objects die, their granules leave and no longer count, and those of all others stay.
+pub fn law_deaths()
+    ensures alive { DeadAreNotAlive }
+    ensures granules { GranulesOfTheDeadLeave }
+    ensures count { GranulesOfTheDeadDoNotCount }
 {}
