@@ -3,9 +3,11 @@ pub mod SameMaps
 pub mod Alike
 pub mod AlikeAccesses
 pub mod AlikePointers
-pub mod AlikeExpressions
-pub mod AlikeStatements
 pub mod FirstDrop
 pub mod Stores
 pub mod Strays
 pub mod ReadBack
+pub mod Quiet
+pub mod Related
+pub mod RelatedExpressions
+pub mod RelatedStatements
