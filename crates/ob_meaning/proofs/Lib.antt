@@ -4,6 +4,7 @@ pub mod Alike
 pub mod AlikeAccesses
 pub mod AlikePointers
 pub mod FirstDrop
+pub mod VanishingRuns
 pub mod Stores
 pub mod Strays
 pub mod ReadBack
