@@ -5,6 +5,7 @@ pub mod AlikeAccesses
 pub mod AlikePointers
 pub mod FirstDrop
 pub mod VanishingRuns
+pub mod Depths
 pub mod Stores
 pub mod Strays
 pub mod ReadBack

@@ -12,6 +12,7 @@ pub mod Statements
 pub mod Calls
 pub mod Runs
 pub mod FirstDrop
+pub mod Depth
 pub mod MemoryLaws
 pub mod ExampleTrees
 pub mod Examples
