@@ -1,18 +1,17 @@
 -- With more depth than steps left, the depth makes no difference.
-use Rattle.std.proofs.Common.{◌≡◌, ℕ, zero, suc, pred, ◌+◌, ◌<◌, ◌≤◌, Bool, true, false, nat_lt, ℤ, List, [], ◌∷◌, arith, refl, sym, subst, ◌∙◌, ap, ◌⊎◌, inl, inr}
-use Rattle.ob_model.specs.declared.endings.Ending.TheVariants.{Stack, Steps}
-use Rattle.ob_model.specs.declared.values.Value.{Value}
-use Rattle.ob_model.specs.Endings.{Finish, plain, dead, dropped}
+use Rattle.std.proofs.Common.{◌≡◌, ℕ, zero, suc, pred, ◌+◌, ◌<◌, ◌≤◌, Bool, true, false, nat_lt, List, [], ◌∷◌, arith, refl, ◌∙◌, ap, ◌⊎◌, inl, inr}
+use Rattle.ob_model.specs.declared.endings.Ending.TheVariants.{Stack}
+use Rattle.ob_model.specs.Endings.{plain}
 use Rattle.ob_tree.specs.Types.{PlainType}
 use Rattle.ob_tree.specs.Types.PlainType.{Void, Int, Pointer, Array, Struct}
 use Rattle.ob_meaning.specs.Calls.{allowance_of, allowances, below, entered, left_to, stack_bytes}
 use Rattle.ob_meaning.specs.Depth.{BoundOnCallsIsFree, BoundOnTurnsIsFree}
 use Rattle.ob_meaning.specs.Expressions.{choose}
 use Rattle.ob_meaning.specs.Initialisers.{cleared, local_type}
-use Rattle.ob_meaning.specs.Setup.{Below, Setup, first_local}
+use Rattle.ob_meaning.specs.Setup.{Setup, first_local}
 use Rattle.ob_meaning.specs.World.{World, Call, Run, stop, go, end_of, bind, take_step}
 use Rattle.ob_meaning.proofs.Quiet.{Quiet, left_store, quiet_allocated, quiet_compared, quiet_free, quiet_load, quiet_move, quiet_read, quiet_subtracted}
-use Rattle.ob_meaning.proofs.Related.{KeptByActs, under}
+use Rattle.ob_meaning.proofs.Related.{KeptByActs}
 use Rattle.ob_meaning.proofs.RelatedExpressions.{BelowActs}
 use Rattle.ob_meaning.proofs.RelatedStatements.{called_acts, turns_acts}
 

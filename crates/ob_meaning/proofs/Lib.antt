@@ -13,3 +13,4 @@ pub mod Quiet
 pub mod Related
 pub mod RelatedExpressions
 pub mod RelatedStatements
+pub mod Modes

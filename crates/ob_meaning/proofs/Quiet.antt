@@ -1,5 +1,5 @@
 -- Acts that take no step and drop nothing.
-use Rattle.std.proofs.Common.{◌≡◌, ℕ, ◌+◌, ◌==◌, ◌&&◌, ◌||◌, Bool, true, false, not, nat_lt, ℤ, pos, ◌+ℤ◌, List, [], ◌∷◌, length, is_some, Option, Some, None, if◌then◌else◌, refl}
+use Rattle.std.proofs.Common.{◌≡◌, ℕ, ◌==◌, ◌&&◌, ◌||◌, Bool, true, false, nat_lt, ℤ, pos, ◌+ℤ◌, List, [], ◌∷◌, length, is_some, Option, Some, None, if◌then◌else◌, refl}
 use Rattle.std.specs.Ordering.{int_eq}
 use Rattle.ob_words.specs.declared.types.IntType.TheVariants.{Long}
 use Rattle.ob_words.specs.declared.types.Relation.{Relation}

@@ -1,6 +1,6 @@
 -- Relations between acts of two runs, under one rule or two, that all parts of a run keep. What holds of loads, stores, moves and
 -- the other acts on worlds, and is kept by going on, by steps and by calls, holds of expressions, statements and calls.
-use Rattle.std.proofs.Common.{ℕ, ◌+◌, Bool, ℤ, List, nat_lt}
+use Rattle.std.proofs.Common.{ℕ, ◌+◌, ℤ, List, nat_lt}
 use Rattle.ob_model.specs.declared.endings.Ending.{Ending}
 use Rattle.ob_model.specs.declared.endings.Ending.TheVariants.{Stack}
 use Rattle.ob_model.specs.declared.values.LoadKind.{LoadKind}

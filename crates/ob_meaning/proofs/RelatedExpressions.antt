@@ -1,5 +1,5 @@
 -- A relation that acts keep holds of expressions.
-use Rattle.std.proofs.Common.{◌≡◌, ℕ, ◌+◌, ◌*◌, Bool, true, false, ℤ, pos, ◌+ℤ◌, List, [], ◌∷◌, Result, Ok, Err, if◌then◌else◌}
+use Rattle.std.proofs.Common.{ℕ, ◌+◌, ◌*◌, Bool, true, false, ℤ, pos, ◌+ℤ◌, List, [], ◌∷◌, Result, Ok, Err, if◌then◌else◌}
 use Rattle.ob_words.specs.declared.types.BinOp.{BinOp}
 use Rattle.ob_words.specs.declared.types.DivideByZero.{DivideByZero}
 use Rattle.ob_words.specs.declared.types.IntType.{IntType}
@@ -14,18 +14,18 @@ use Rattle.ob_model.specs.Endings.{plain}
 use Rattle.ob_tree.specs.Types.{PlainType}
 use Rattle.ob_typed.specs.declared.names.Builtin.{Builtin}
 use Rattle.ob_typed.specs.declared.names.Builtin.TheVariants as builtin
-use Rattle.ob_typed.specs.TypedTree.{TypedExpr, TypedExprs, TypedLean, TypedNode, TypedPlace}
+use Rattle.ob_typed.specs.TypedTree.{TypedExpr, TypedExprs, TypedLean, TypedNode}
 use Rattle.ob_typed.specs.TypedTree.TypedExpr.{Typed}
 use Rattle.ob_typed.specs.TypedTree.TypedExprs.{NoArguments, Argument}
 use Rattle.ob_typed.specs.TypedTree.{TypedLean as at, TypedNode as node}
 use Rattle.ob_typed.specs.TypedTree.TypedPlace.{Place}
-use Rattle.ob_meaning.specs.Expressions.{Based, arithmetic, arithmetic_in, argument, at_object, at_value, based, built_in, choose, computed, converted, copy_scalar, copy_scalars, further, load_based, node_value, older_if, right_operand, store_based, tested, value, values}
-use Rattle.ob_meaning.specs.Heap.{byte_count, exited}
+use Rattle.ob_meaning.specs.Expressions.{Based, arithmetic, argument, at_object, at_value, based, built_in, choose, computed, converted, copy_scalar, copy_scalars, further, load_based, node_value, older_if, right_operand, store_based, value, values}
+use Rattle.ob_meaning.specs.Heap.{byte_count}
 use Rattle.ob_meaning.specs.Pointers.{formed, stride}
 use Rattle.ob_meaning.specs.Scalars.{Scalar, scalars_of}
 use Rattle.ob_meaning.specs.Setup.{Below, Loop, Setup, kind_of, number_type}
 use Rattle.ob_meaning.specs.Values.{is_true, nothing, number_of, truth}
-use Rattle.ob_meaning.specs.World.{Rule, World, Run, stop, go, bind, step}
+use Rattle.ob_meaning.specs.World.{Rule, World, Run, stop}
 use Rattle.ob_meaning.proofs.Related.{KeptByActs, under}
 
 module _ (u : Setup) (r s : Rule) (k : KeptByActs u r s) where

@@ -1,27 +1,22 @@
 -- A relation that acts keep holds of initialisers, statements and calls.
-use Rattle.std.proofs.Common.{ℕ, zero, suc, ◌+◌, true, pos, List, [], ◌∷◌, length, nat_lt, Option, Some, None, refl}
-use Rattle.ob_model.specs.declared.endings.Ending.TheVariants.{Stack, Steps}
+use Rattle.std.proofs.Common.{ℕ, ◌+◌, true, pos, List, [], ◌∷◌, Option, Some, None}
 use Rattle.ob_model.specs.declared.values.Value.{Value}
 use Rattle.ob_model.specs.declared.values.Value.TheVariants as value_of
-use Rattle.ob_model.specs.Bounded.{Listed, surviving_cells}
 use Rattle.ob_tree.specs.Types.{PlainType}
-use Rattle.ob_tree.specs.Types.PlainType.{Void, Int, Pointer, Array, Struct}
 use Rattle.ob_typed.specs.TypedTree.{TypedExpr, TypedInit, TypedInits, TypedStmt, TypedStmts}
 use Rattle.ob_typed.specs.TypedTree.TypedExpr.{Typed}
 use Rattle.ob_typed.specs.TypedTree.{TypedInit as init, TypedStmt as stmt}
 use Rattle.ob_typed.specs.TypedTree.TypedInits.{NoItems, Item}
 use Rattle.ob_typed.specs.TypedTree.TypedPlace.{Place}
 use Rattle.ob_typed.specs.TypedTree.TypedStmts.{NoStmts, Stmt}
-use Rattle.ob_meaning.specs.Calls.{allowance_of, allowances, below, called, entered, left, left_to, result_of, returned, stack_bytes}
+use Rattle.ob_meaning.specs.Calls.{called, entered, result_of, returned}
 use Rattle.ob_meaning.specs.Expressions.{Based, at_object, converted}
-use Rattle.ob_meaning.specs.Initialisers.{cleared, initialise, initialise_items, initialise_local, local_type, store_characters}
-use Rattle.ob_meaning.specs.Memory.{is_among}
+use Rattle.ob_meaning.specs.Initialisers.{initialise, initialise_items, initialise_local, store_characters}
 use Rattle.ob_meaning.specs.Scalars.{part_of, scalars_of}
-use Rattle.ob_meaning.specs.Setup.{Below, Flow, next, broke, continued, gave, Loop, Setup, first_local, function_at, number_type}
+use Rattle.ob_meaning.specs.Setup.{Below, Flow, next, broke, continued, gave, Loop, Setup, function_at, number_type}
 use Rattle.ob_meaning.specs.Statements.{dropped, exec, exec_all, goes_on, loop_of, looped, loops_on, optional, start_all, start_one, then_do, turn, turns}
-use Rattle.ob_meaning.specs.Values.{Cell, is_true, nothing, truth}
-use Rattle.ob_meaning.specs.World.{Rule, World, Run, stop, go, bind, step}
-
+use Rattle.ob_meaning.specs.Values.{is_true, nothing, truth}
+use Rattle.ob_meaning.specs.World.{Rule, World, Run, step}
 use Rattle.ob_meaning.proofs.Related.{KeptByActs, under}
 use Rattle.ob_meaning.proofs.RelatedExpressions.{BelowActs, based_acts, choose_acts, copy_scalars_acts, further_acts, store_based_acts, value_acts}
 
@@ -136,7 +131,6 @@ module _ (u : Setup) (r s : Rule) (k : KeptByActs u r s) where
       exec_all_acts : (ss : TypedStmts) → k.Acts (exec_all (under r u) m ss) (exec_all (under s u) n ss)
       exec_all_acts NoStmts = k.goes next
       exec_all_acts (Stmt head tail) = then_acts _ _ _ _ (exec_acts head) (exec_all_acts tail)
-
 
     -- ---- turns and calls
 

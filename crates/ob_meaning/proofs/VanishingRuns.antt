@@ -1,16 +1,16 @@
 -- Where stray accesses vanish, no run drops a granule.
-use Rattle.std.proofs.Common.{◌≡◌, ℕ, zero, suc, ◌+◌, Bool, true, false, nat_lt, ℤ, List, [], ◌∷◌, Some, None, refl, ◌∙◌}
-use Rattle.ob_model.specs.declared.endings.Ending.TheVariants.{Stack, Steps}
+use Rattle.std.proofs.Common.{◌≡◌, ℕ, zero, suc, ◌+◌, Bool, true, false, nat_lt, List, [], ◌∷◌, None, refl, ◌∙◌}
+use Rattle.ob_model.specs.declared.endings.Ending.TheVariants.{Stack}
 use Rattle.ob_model.specs.declared.values.Value.{Value}
-use Rattle.ob_model.specs.Endings.{Finish, plain, dead, dropped}
+use Rattle.ob_model.specs.Endings.{plain}
 use Rattle.ob_tree.specs.Types.{PlainType}
 use Rattle.ob_tree.specs.Types.PlainType.{Void, Int, Pointer, Array, Struct}
-use Rattle.ob_meaning.specs.Calls.{allowance_of, allowances, below, entered, left, left_to, stack_bytes}
+use Rattle.ob_meaning.specs.Calls.{allowance_of, allowances, below, entered, left_to, stack_bytes}
 use Rattle.ob_meaning.specs.Expressions.{choose}
 use Rattle.ob_meaning.specs.Initialisers.{cleared, local_type}
 use Rattle.ob_meaning.specs.Runs.{finish_of, first_world, run}
 use Rattle.ob_meaning.specs.Setup.{Setup, first_local}
-use Rattle.ob_meaning.specs.World.{World, Call, Run, stop, go, end_of, bind, step, take_step, vanish}
+use Rattle.ob_meaning.specs.World.{World, Call, Run, stop, go, end_of, bind, take_step, vanish}
 use Rattle.ob_meaning.proofs.Quiet.{IsNoDrop, Quiet, quiet_allocated, quiet_compared, quiet_free, quiet_load, quiet_move, quiet_read, quiet_store, quiet_subtracted}
 use Rattle.ob_meaning.proofs.Related.{KeptByActs, under}
 use Rattle.ob_meaning.proofs.RelatedExpressions.{BelowActs}

@@ -4,7 +4,7 @@ use Rattle.std.specs.Prelude.{◌≡◌, ℕ, ◌<◌, List}
 use Rattle.ob_model.specs.declared.values.Value.{Value}
 use Rattle.ob_meaning.specs.Calls.{below}
 use Rattle.ob_meaning.specs.Setup.{Loop, Setup}
-use Rattle.ob_meaning.specs.World.{World, end_of}
+use Rattle.ob_meaning.specs.World.{World}
 
 abbrev pub BoundOnCallsIsFree : Type 0
 BoundOnCallsIsFree =

@@ -1,7 +1,8 @@
 ghost use Rattle.ob_meaning.specs.World.{vanish, kept, unlimited};
 ghost use Rattle.ob_meaning.specs.ExampleRuns.{OverrunReads, StrayStoreVanishes, StrayStoreIsKept, NeighbourIsUntouched, NumberAtNull, IllAlignedVanishes, LastGranule, PointerIsLost, DropChangesAnswer, UnlimitedEndsAtDrop, FirstDropIsTold, RecentUseKeeps, PointerComesBack, PointersAreEqualByObject, PointersAreCounted, OffsetsAreBounded, FreedPlaceIsTaken, HeapIsFull, UseAfterFreeEnds, OtherFreesAreTold, DivisionByZeroEnds, StepsRunOut, StackIsBounded, InputEnds};
 ghost use Rattle.ob_meaning.specs.MemoryLaws.{OtherGranulesStay, OtherOutsidesStay, SizesAndLivesStay, AllElseStays, StoredIsLoaded, StrayStoresVanish, StrayLoadsTakeOne, UnsetByteTakesOne, SetBytesTakeNone, DeadAreNotAlive, GranulesOfTheDeadLeave, GranulesOfTheDeadDoNotCount};
-ghost use Rattle.ob_meaning.specs.FirstDrop.{RunsAreAlikeToTheFirstDrop};
+ghost use Rattle.ob_meaning.specs.FirstDrop.{RunsAreAlikeToTheFirstDrop, RunsOfSettingsAreAlike, VanishingRunsDropNothing};
+ghost use Rattle.ob_meaning.specs.Depth.{BoundOnCallsIsFree, BoundOnTurnsIsFree};
 ghost use Rattle.ob_meaning.specs.LineExample.{LineIsCut, LineIsWhole};
 ghost use Rattle.ob_meaning.specs.ControlRuns.{LeastSteps, LoopsTakeSteps, ChoicesSkip, CallsRecur, DanglingPointerEnds, ExitEnds, EndsGiveZeroOrNull, StaticsHoldPointers, ArraysAreInitialised, StepsGiveOldOrNew, PointersWalk, StructuresAreCopied, ScalarsGoAstray};
 
@@ -94,9 +95,19 @@ pub fn law_line()
 /// For all programs, settings, inputs and steps: where the run with unlimited objects ends by itself, the
 /// run with a bounded list of stray granules is the same and drops none. Where the unlimited run ends
 /// because a store would keep one granule too many, the bounded run begins as it does, and that store is
-/// the first that drops.
+/// the first that drops. Where stray accesses vanish, nothing is dropped. So each run goes as the one of
+/// its mode where objects are unlimited.
 pub fn law_first_drop()
-    ensures { RunsAreAlikeToTheFirstDrop }
+    ensures bounded { RunsAreAlikeToTheFirstDrop }
+    ensures vanishing { VanishingRunsDropNothing }
+    ensures settings { RunsOfSettingsAreAlike }
+{}
+
+/// Calls and loop turns have a meaning for each bound on how many of them stand one in another. A bound of
+/// more than the steps left makes no difference.
+pub fn law_depth()
+    ensures calls { BoundOnCallsIsFree }
+    ensures turns { BoundOnTurnsIsFree }
 {}
 
 /// A store through a pointer changes at most one granule of that pointer's object, or one granule outside
