@@ -5,7 +5,7 @@ use Rattle.ob_words.specs.declared.types.DivideByZero.{DivideByZero}
 use Rattle.ob_words.specs.declared.types.IntType.{IntType}
 use Rattle.ob_words.specs.declared.types.IntType.TheVariants.{Int}
 use Rattle.ob_words.specs.Conversion.{convert}
-use Rattle.ob_words.specs.Operators.{binary, compare, shifts}
+use Rattle.ob_words.specs.Operators.{binary, shifts}
 use Rattle.ob_model.specs.declared.endings.Ending.TheVariants.{Divide, Ended, Far}
 use Rattle.ob_model.specs.declared.values.Value.{Value}
 use Rattle.ob_model.specs.declared.values.Value.TheVariants as value_of
@@ -19,11 +19,11 @@ use Rattle.ob_typed.specs.TypedTree.TypedExpr.{Typed}
 use Rattle.ob_typed.specs.TypedTree.TypedExprs.{NoArguments, Argument}
 use Rattle.ob_typed.specs.TypedTree.{TypedLean as at, TypedNode as node}
 use Rattle.ob_typed.specs.TypedTree.TypedPlace.{Place}
-use Rattle.ob_meaning.specs.Expressions.{Based, arithmetic, argument, at_object, at_value, based, built_in, choose, computed, converted, copy_scalar, copy_scalars, further, load_based, node_value, older_if, right_operand, store_based, value, values}
+use Rattle.ob_meaning.specs.Expressions.{Based, arithmetic, comparison, argument, at_object, at_value, based, built_in, choose, computed, converted, copy_scalar, copy_scalars, further, load_based, node_value, older_if, right_operand, store_based, value, values}
 use Rattle.ob_meaning.specs.Heap.{byte_count}
 use Rattle.ob_meaning.specs.Pointers.{formed, stride}
 use Rattle.ob_meaning.specs.Scalars.{Scalar, scalars_of}
-use Rattle.ob_meaning.specs.Setup.{Below, Loop, Setup, kind_of, number_type}
+use Rattle.ob_meaning.specs.Setup.{Below, expression_type, Loop, Setup, kind_of, number_type}
 use Rattle.ob_meaning.specs.Values.{is_true, nothing, number_of, truth}
 use Rattle.ob_meaning.specs.World.{Rule, World, Run, stop}
 use Rattle.ob_meaning.proofs.Related.{KeptByActs, under}
@@ -46,7 +46,7 @@ module _ (u : Setup) (r s : Rule) (k : KeptByActs u r s) where
   computed_acts (Err e) = k.stops Divide
 
   arithmetic_acts : (op : BinOp) (t : IntType) (x y : Value) → k.Acts (arithmetic op t x y) (arithmetic op t x y)
-  arithmetic_acts op t x y = computed_acts (binary op t (number_of x) (number_of y))
+  arithmetic_acts op t x y = computed_acts (binary op t (number_of (converted t x)) (number_of (right_operand (shifts op) t y)))
 
   pub further_acts : (b : Based) (d : ℤ) → k.Acts (further b d) (further b d)
   further_acts b d =
@@ -101,7 +101,7 @@ module _ (u : Setup) (r s : Rule) (k : KeptByActs u r s) where
           k.binds _ _ _ _ (value_acts a) (λ x. k.binds _ _ _ _ (value_acts b) (λ y. arithmetic_acts op t x y))
       node_acts line (node.Compare relation a b) =
           k.binds _ _ _ _ (value_acts a) (λ x.
-          k.binds _ _ _ _ (value_acts b) (λ y. k.goes (truth (compare relation (number_of x) (number_of y)))))
+          k.binds _ _ _ _ (value_acts b) (λ y. k.goes (comparison relation (number_type (expression_type a)) x y)))
       node_acts line (node.PtrCompare relation a b) =
           k.binds _ _ _ _ (value_acts a) (λ x. k.binds _ _ _ _ (value_acts b) (λ y. k.compares relation line x y))
       node_acts line (node.PtrDiff size a b) =
@@ -121,7 +121,7 @@ module _ (u : Setup) (r s : Rule) (k : KeptByActs u r s) where
           k.binds _ _ _ _ (based_acts lean) (λ b.
           k.binds _ _ _ _ (load_based_acts ty line b) (λ x.
           k.binds _ _ _ _ (value_acts e) (λ y.
-          k.binds _ _ _ _ (arithmetic_acts op t (converted t x) (right_operand (shifts op) t y)) (λ z.
+          k.binds _ _ _ _ (arithmetic_acts op t x y) (λ z.
           k.binds _ _ _ _ (store_based_acts ty line b (converted (number_type ty) z)) (λ v.
           k.goes (older_if post x v))))))
       node_acts line (node.PtrUpdate scale minus post (Place own_line ty lean) e) =

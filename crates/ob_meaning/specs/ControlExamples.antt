@@ -13,7 +13,7 @@ use Rattle.ob_typed.specs.TypedTree.TypedExprs.{NoArguments}
 use Rattle.ob_typed.specs.TypedTree.TypedInits.{NoItems, Item}
 use Rattle.ob_typed.specs.TypedTree.{TypedNode as node, TypedLean as at, TypedStmt as stmt, TypedInit as init}
 use Rattle.ob_meaning.specs.Examples.{return_zero}
-use Rattle.ob_meaning.specs.ExampleTrees.{int_type, char_type, char_pointer, int, number, as_char, as_int, plus, digit, place, read, past, pointer_to, element, pointed, arguments_of, built_in_call, no_name, statements_of, set, put, put_digit, function_of, main_of, program_of, simple}
+use Rattle.ob_meaning.specs.ExampleTrees.{int_type, char_type, char_pointer, int, malloc, number, as_char, as_int, plus, digit, place, read, past, pointer_to, element, pointed, arguments_of, built_in_call, no_name, statements_of, set, put, put_digit, function_of, main_of, program_of, simple}
 
 abbrev pub short_type : PlainType
 short_type = Int type.Short
@@ -180,7 +180,7 @@ half_copied =
     program_of two_ints []
     (main_of (Struct 0 ∷ Pointer (Struct 0) ∷ []) 26
     (stmt.Init 0 (init.Items (items_of (int_item 1 ∷ int_item 2 ∷ [])))
-    ∷ set (Pointer (Struct 0)) (at.Local 1) (built_in_call (Pointer PlainType.Void) builtin.Malloc (number 4 ∷ []))
+    ∷ set (Pointer (Struct 0)) (at.Local 1) (malloc (Struct 0) 4)
     ∷ stmt.Expr (Typed 1 PlainType.Void (node.CopyStruct (place (Struct 0) (pointed (Struct 0) 1)) (place (Struct 0) (at.Local 0))))
     ∷ stmt.Expr (Typed 1 PlainType.Void (node.CopyStruct (place (Struct 0) (at.Local 0)) (place (Struct 0) (pointed (Struct 0) 1))))
     ∷ put (digit (read int_type (at.Member (at.Local 0) 0))) ∷ put (digit (read int_type (at.Member (at.Local 0) 4))) ∷ return_zero) ∷ [])

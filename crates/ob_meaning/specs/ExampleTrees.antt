@@ -79,8 +79,10 @@ arguments_of (e ∷ es) = Argument e (arguments_of es)
 abbrev pub built_in_call : PlainType → Builtin → List TypedExpr → TypedExpr
 built_in_call ty b es = Typed 1 ty (node.CallBuiltin b (arguments_of es))
 
-abbrev pub malloc : ℕ → TypedExpr
-malloc n = built_in_call (Pointer PlainType.Void) builtin.Malloc (number n ∷ [])
+-- malloc(n), as a pointer to a type
+abbrev pub malloc : PlainType → ℕ → TypedExpr
+malloc ty n =
+    built_in_call (Pointer ty) builtin.Malloc (Typed 1 (Int type.ULong) (node.Convert type.ULong (number n)) ∷ [])
 
 -- ---- statements
 
@@ -101,7 +103,7 @@ put_digit lean = put (digit (as_int (read char_type lean)))
 
 abbrev pub free_local : ℕ → TypedStmt
 free_local local =
-    stmt.Expr (built_in_call PlainType.Void builtin.Free (read char_pointer (at.Local local) ∷ []))
+    stmt.Expr (built_in_call PlainType.Void builtin.Free (Typed 1 (Pointer PlainType.Void) (node.Read (place char_pointer (at.Local local))) ∷ []))
 
 -- ---- programs
 

@@ -132,7 +132,7 @@ lost_pointer =
 abbrev pub last_granule : TypedProgram
 last_granule =
     simple (Pointer int_type ∷ []) 16
-    (set (Pointer int_type) (at.Local 0) (malloc 6) ∷ set int_type (past (pointed int_type 0) 4 1) (number 9)
+    (set (Pointer int_type) (at.Local 0) (malloc int_type 6) ∷ set int_type (past (pointed int_type 0) 4 1) (number 9)
     ∷ put (digit (read int_type (past (pointed int_type 0) 4 1))) ∷ return_zero)
 
 -- char *p, *q, *r; p = malloc(3); q = malloc(3); p[0] = 65; q[0] = 66; free(p); r = malloc(3); r[0] = 67;
@@ -143,9 +143,9 @@ first_char local = past (pointed char_type local) 1 0
 abbrev pub first_fit : TypedProgram
 first_fit =
     simple (char_pointer ∷ char_pointer ∷ char_pointer ∷ []) 38
-    (set char_pointer (at.Local 0) (malloc 3) ∷ set char_pointer (at.Local 1) (malloc 3)
+    (set char_pointer (at.Local 0) (malloc char_type 3) ∷ set char_pointer (at.Local 1) (malloc char_type 3)
     ∷ set char_type (first_char 0) (as_char (number 65)) ∷ set char_type (first_char 1) (as_char (number 66)) ∷ free_local 0
-    ∷ set char_pointer (at.Local 2) (malloc 3) ∷ set char_type (first_char 2) (as_char (number 67))
+    ∷ set char_pointer (at.Local 2) (malloc char_type 3) ∷ set char_type (first_char 2) (as_char (number 67))
     ∷ put (as_int (read char_type (first_char 1))) ∷ put (as_int (read char_type (first_char 2))) ∷ return_zero)
 
 -- char *p; p = malloc(16); putchar('0' + (p != 0)); p = malloc(0); putchar('0' + (p != 0));
@@ -155,20 +155,20 @@ put_found = put (digit (int (node.PtrCompare relation.Ne (read char_pointer (at.
 abbrev pub full_heap : TypedProgram
 full_heap =
     simple (char_pointer ∷ []) 21
-    (set char_pointer (at.Local 0) (malloc 16) ∷ put_found ∷ set char_pointer (at.Local 0) (malloc 0) ∷ put_found ∷ return_zero)
+    (set char_pointer (at.Local 0) (malloc char_type 16) ∷ put_found ∷ set char_pointer (at.Local 0) (malloc char_type 0) ∷ put_found ∷ return_zero)
 
 -- on lines 3 to 6: p = malloc(4); putchar(65); free(p); *p = 1; with char *p
 abbrev pub use_after_free : TypedProgram
 use_after_free =
     simple (char_pointer ∷ []) 12
-    (set char_pointer (at.Local 0) (malloc 4) ∷ put (number 65) ∷ free_local 0
+    (set char_pointer (at.Local 0) (malloc char_type 4) ∷ put (number 65) ∷ free_local 0
     ∷ stmt.Expr (Typed 6 char_type (node.Assign (place char_type (pointed char_type 0)) (as_char (number 1)))) ∷ return_zero)
 
 -- char a[2]; free(a); putchar(65);
 abbrev pub stray_free : TypedProgram
 stray_free =
     simple (two_chars ∷ []) 5
-    (stmt.Expr (built_in_call PlainType.Void builtin.Free (pointer_to char_type (at.Local 0) ∷ [])) ∷ put (number 65) ∷ return_zero)
+    (stmt.Expr (built_in_call PlainType.Void builtin.Free (pointer_to PlainType.Void (at.Local 0) ∷ [])) ∷ put (number 65) ∷ return_zero)
 
 -- ---- control
 

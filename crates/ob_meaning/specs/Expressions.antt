@@ -5,6 +5,7 @@ use Rattle.std.specs.Prelude.{ℕ, ◌+◌, ◌*◌, Bool, true, false, ℤ, pos
 use Rattle.ob_words.specs.declared.types.BinOp.{BinOp}
 use Rattle.ob_words.specs.declared.types.DivideByZero.{DivideByZero}
 use Rattle.ob_words.specs.declared.types.IntType.{IntType}
+use Rattle.ob_words.specs.declared.types.Relation.{Relation}
 use Rattle.ob_words.specs.Conversion.{convert}
 use Rattle.ob_words.specs.Operators.{binary, compare, shifts}
 use Rattle.ob_model.specs.declared.endings.Ending.TheVariants.{Divide}
@@ -24,7 +25,7 @@ use Rattle.ob_meaning.specs.Accesses.{load, store}
 use Rattle.ob_meaning.specs.Heap.{allocated, exited, free, read_byte, byte_count, write_byte}
 use Rattle.ob_meaning.specs.Pointers.{compared, formed, move, stride, subtracted}
 use Rattle.ob_meaning.specs.Scalars.{Scalar, scalars_of}
-use Rattle.ob_meaning.specs.Setup.{Below, Setup, first_local, kind_of, number_type}
+use Rattle.ob_meaning.specs.Setup.{Below, Setup, expression_type, first_local, kind_of, number_type}
 use Rattle.ob_meaning.specs.Values.{is_true, nothing, number_of, truth}
 use Rattle.ob_meaning.specs.World.{World, Run, stop, go, bind, step}
 
@@ -33,21 +34,24 @@ use Rattle.ob_meaning.specs.World.{World, Run, stop, go, bind, step}
 abbrev pub converted : IntType → Value → Value
 converted t v = value_of.Num (convert t (number_of v))
 
--- an operator on two numbers of a type (6.5.5 to 6.5.12); division by zero ends the run
+-- what an operator gives; division by zero ends the run
 abbrev pub computed : Result ℤ DivideByZero → World → Run Value
 computed (Ok n) w = go (value_of.Num n) w
 computed (Err e) w = stop (plain Divide) w
 
-abbrev pub arithmetic : BinOp → IntType → Value → Value → World → Run Value
-arithmetic op t x y w = computed (binary op t (number_of x) (number_of y)) w
-
--- the same in compound assignment, whose operands are converted to the type first; the right operand of a shift is not
+-- An operator on two numbers of a type (6.5.5 to 6.5.12). Only compound assignment has operands of another type, which are
+-- converted first; the right operand of a shift stays.
 abbrev pub right_operand : Bool → IntType → Value → Value
 right_operand true t y = y
 right_operand false t y = converted t y
 
-abbrev pub arithmetic_in : BinOp → IntType → Value → Value → World → Run Value
-arithmetic_in op t x y w = arithmetic op t (converted t x) (right_operand (shifts op) t y) w
+abbrev pub arithmetic : BinOp → IntType → Value → Value → World → Run Value
+arithmetic op t x y w =
+    computed (binary op t (number_of (converted t x)) (number_of (right_operand (shifts op) t y))) w
+
+-- a comparison of two numbers of a type (6.5.8, 6.5.9)
+abbrev pub comparison : Relation → IntType → Value → Value → Value
+comparison r t x y = truth (compare r (number_of (converted t x)) (number_of (converted t y)))
 
 -- ---- choices
 
@@ -139,7 +143,7 @@ abbrev mutual
   node_value u m line (node.Arith op t a b) w =
       bind (value u m a w) (λ x w1. bind (value u m b w1) (λ y w2. arithmetic op t x y w2))
   node_value u m line (node.Compare r a b) w =
-      bind (value u m a w) (λ x w1. bind (value u m b w1) (λ y w2. go (truth (compare r (number_of x) (number_of y))) w2))
+      bind (value u m a w) (λ x w1. bind (value u m b w1) (λ y w2. go (comparison r (number_type (expression_type a)) x y) w2))
   node_value u m line (node.PtrCompare r a b) w =
       bind (value u m a w) (λ x w1. bind (value u m b w1) (λ y w2. compared r line x y w2))
   node_value u m line (node.PtrDiff size a b) w =
@@ -160,7 +164,7 @@ abbrev mutual
       bind (based u m lean w) (λ b w1.
       bind (load_based u ty line b w1) (λ x w2.
       bind (value u m e w2) (λ y w3.
-      bind (arithmetic_in op t x y w3) (λ z w4.
+      bind (arithmetic op t x y w3) (λ z w4.
       bind (store_based u ty line b (converted (number_type ty) z) w4) (λ v w5. go (older_if post x v) w5)))))
   node_value u m line (node.PtrUpdate scale minus post (Place own_line ty lean) e) w =
       bind (based u m lean w) (λ b w1.

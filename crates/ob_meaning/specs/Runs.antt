@@ -1,6 +1,8 @@
 -- Whole runs (C99 5.1.2.2.3, 6.7.8, 6.9). The static objects are made, `main` is called, and the run's outcome is how it ends,
 -- what it has written, its stray accesses, and the place in the cycle of manufactured values.
 use Rattle.std.specs.Prelude.{ℕ, zero, suc, ◌+◌, ◌/◌, pos, true, List, [], ◌∷◌, ◌++◌, map, take, drop, replicate, slice_set, Some, None}
+use Rattle.ob_words.specs.declared.types.IntType.TheVariants.{Int}
+use Rattle.ob_words.specs.Conversion.{convert}
 use Rattle.ob_model.specs.declared.endings.Ending.TheVariants.{Ended}
 use Rattle.ob_model.specs.declared.objects.Sort.TheVariants.{Static}
 use Rattle.ob_model.specs.declared.settings.RunSettings.{RunSettings}
@@ -70,10 +72,10 @@ abbrev pub run : Setup → ℕ → List ℕ → ℕ → Run Value
 run u cycle_place input steps =
     step (first_world u cycle_place input steps) ((below u steps).call u.program.main [])
 
--- how a run ends
+-- how a run ends; that of `main` is an `int`
 abbrev pub finish_of : Run Value → Finish
 finish_of (stop finish w) = finish
-finish_of (go v w) = plain (Ended (number_of v))
+finish_of (go v w) = plain (Ended (convert Int (number_of v)))
 
 abbrev pub outcome_at : Finish → World → Outcome
 outcome_at finish w =

@@ -14,7 +14,7 @@ use Rattle.ob_model.specs.Endings.{InputEnd}
 use Rattle.ob_tree.specs.Types.{PlainType}
 use Rattle.ob_tree.specs.Types.{PlainType as type_of}
 use Rattle.ob_typed.specs.TypedTree.{TypedExpr, TypedFunction, TypedProgram, TypedStmt}
-use Rattle.ob_typed.specs.TypedTree.{TypedStmt as stmt}
+use Rattle.ob_typed.specs.TypedTree.{TypedExpr as expr, TypedStmt as stmt}
 use Rattle.ob_meaning.specs.World.{Rule, vanish, kept, unlimited, World, Call, Run}
 
 pub record Setup : Type 0 where
@@ -56,6 +56,9 @@ number_type (type_of.Pointer t) = type.Int
 number_type type_of.Void = type.Int
 number_type (type_of.Array t n) = type.Int
 number_type (type_of.Struct n) = type.Int
+
+abbrev pub expression_type : TypedExpr → PlainType
+expression_type (expr.Typed line ty what) = ty
 
 -- ---- functions
 
