@@ -8,9 +8,12 @@ pub mod VanishingRuns
 pub mod Depths
 pub mod Stores
 pub mod Strays
+pub mod FullCells
 pub mod ReadBack
 pub mod Quiet
 pub mod Related
 pub mod RelatedExpressions
 pub mod RelatedStatements
 pub mod Modes
+pub mod WholeObjects
+pub mod WholeRuns

@@ -1,9 +1,9 @@
 -- What is stored inside of an object is loaded again.
-use Rattle.std.proofs.Common.{◌≡◌, ℕ, zero, suc, ◌+◌, ◌/◌, ◌%◌, ◌^◌, ◌<◌, ◌≤◌, nat_lt, Bool, true, false, ℤ, pos, negsuc, ◌+ℤ◌, unsigned_abs, List, [], ◌∷◌, length, Option, Some, slice_index_or, arith, refl, sym, subst, ◌∙◌, ap, All}
+use Rattle.std.proofs.Common.{◌≡◌, ℕ, zero, suc, ◌+◌, ◌/◌, ◌%◌, ◌^◌, ◌<◌, ◌≤◌, nat_lt, Bool, true, false, ℤ, pos, negsuc, ◌+ℤ◌, unsigned_abs, List, [], ◌∷◌, length, map, take, drop, Option, Some, is_some, slice_index_or, arith, refl, sym, subst, ◌∙◌, ap, All}
 use Rattle.std.specs.Option.{option_map}
 use Rattle.std.proofs.lemmas.Bool.Decides.{nat_tests}
 use Rattle.std.proofs.lemmas.Int.{ints}
-use Rattle.std.proofs.lemmas.List.{get_or-set_same, get_or_past}
+use Rattle.std.proofs.lemmas.List.{get_or-set_same, get_or_past, take-map, drop-map}
 use Rattle.std.proofs.lemmas.List.Elements.{All-head, All-tail}
 use Rattle.std.proofs.lemmas.Nat.{div-add-mod'}
 use Rattle.ob_words.specs.declared.types.IntType.{IntType}
@@ -19,15 +19,16 @@ use Rattle.ob_model.specs.declared.values.LoadKind.{LoadKind}
 use Rattle.ob_model.specs.declared.values.LoadKind.TheVariants.{Num, Ptr}
 use Rattle.ob_model.specs.declared.values.Value.{Value}
 use Rattle.ob_model.specs.declared.values.Value.TheVariants as value
-use Rattle.ob_model.specs.Accesses.{IsInside, bytes_of_kind, granule, is_stray}
+use Rattle.ob_model.specs.Accesses.{IsInside, bytes_of_kind, granule, is_stray, place_in_granule}
 use Rattle.ob_model.specs.Accesses as reaches
-use Rattle.ob_model.specs.Cells.{bytes, has_eight, pointer, read_number, written, zeros}
+use Rattle.ob_model.specs.Cells.{bytes, has_eight, pointer, read_number, set_bytes, written, zeros}
 use Rattle.ob_model.proofs.Astray.{others_inside, strays_are_others}
 use Rattle.ob_model.proofs.ReadBack.{written_is_read}
 use Rattle.ob_meaning.specs.Accesses.{Target, at, keeps, load, load_at, load_own, or_made, store_at, target}
 use Rattle.ob_meaning.specs.Memory.{Object, no_object, object_at, own_cell, with_own, with_own_cell}
-use Rattle.ob_meaning.specs.MemoryLaws.{IsWhole, Reaches, StoredIsLoaded, as_stored, stored}
+use Rattle.ob_meaning.specs.MemoryLaws.{IsWhole, LoadsInsideTakeNone, is_full, Reaches, StoredIsLoaded, as_stored, stored}
 use Rattle.ob_meaning.specs.World.{Rule, World, go, end_of}
+use Rattle.ob_meaning.proofs.FullCells.{all_set, full_eight, full_set, set_are}
 use Rattle.ob_meaning.proofs.Stores.{sizes_and_lives_stay}
 use Rattle.ob_meaning.proofs.Strays.{target_is}
 use Rattle.ob_meaning.specs.Values.{Cell, number_of, read_cell, write_cell}
@@ -67,7 +68,7 @@ written_back k place bs (bytes es) is eight fits =
     subst (λ (n : ℕ). read_number {P = Value} n place (written place bs (bytes es)) ≡ Some (from_bytes bs)) is (written_is_read place bs (bytes es) eight (omega arith))
 
 -- an aligned number lies in one granule
-in_granule : (t : IntType) (n : ℕ) → n % (width t / 8) ≡ 0 → n % 8 + width t / 8 ≤ 8
+pub in_granule : (t : IntType) (n : ℕ) → n % (width t / 8) ≡ 0 → n % 8 + width t / 8 ≤ 8
 in_granule Char n h = omega arith
 in_granule SChar n h = omega arith
 in_granule UChar n h = omega arith
@@ -115,10 +116,10 @@ is_made objects object h = by_test (nat_lt object (length objects)) refl
         let none : (object_at objects object).alive ≡ false = ap (λ (o : Object). o.alive) (get_or_past objects object no_object past) in
         absurd (cc)
 
-eight_at : (cells : List Cell) (i : ℕ) → All (λ cell. has_eight cell ≡ true) cells → has_eight (slice_index_or cells i zeros) ≡ true
-eight_at [] i all = refl
-eight_at (c ∷ cs) zero all = All-head (λ cell. has_eight cell ≡ true) c cs all
-eight_at (c ∷ cs) (suc i) all = eight_at cs i (All-tail (λ cell. has_eight cell ≡ true) c cs all)
+pub full_at : (cells : List Cell) (i : ℕ) → All (λ cell. is_full cell ≡ true) cells → is_full (slice_index_or cells i zeros) ≡ true
+full_at [] i all = refl
+full_at (c ∷ cs) zero all = All-head (λ cell. is_full cell ≡ true) c cs all
+full_at (c ∷ cs) (suc i) all = full_at cs i (All-tail (λ cell. is_full cell ≡ true) c cs all)
 
 -- a granule that was set is read
 own_back : (objects : List Object) (object q : ℕ) (cell : Cell) → object < length objects → q < length (object_at objects object).own → own_cell (with_own_cell objects object (pos q) cell) object (pos q) ≡ cell
@@ -152,7 +153,7 @@ load_back cycle kind object (pos n) v w alive whole near =
     let within : n / 8 < length (object_at w.objects object).own = rw whole.granules (omega (arith, end, some)) in
     let back = own_back w.objects object (n / 8) (write_cell kind (pos n) v c) (is_made w.objects object alive) within in
     ap (λ (x : Cell). or_made (read_cell kind (pos n) x) cycle kind (inside_world kind object (pos n) v w)) back
-    ∙ ap (λ (x : Option Value). or_made x cycle kind (inside_world kind object (pos n) v w)) (cell_back kind n v c (eight_at (object_at w.objects object).own (n / 8) whole.eight) near.0)
+    ∙ ap (λ (x : Option Value). or_made x cycle kind (inside_world kind object (pos n) v w)) (cell_back kind n v c (full_eight c (full_at (object_at w.objects object).own (n / 8) whole.full)) near.0)
 
 pub stored_is_loaded : StoredIsLoaded
 stored_is_loaded rule cycle kind line object offset d v w h whole near =
@@ -164,3 +165,31 @@ stored_is_loaded rule cycle kind line object offset d v w h whole near =
     let reaches_after : Reaches after object offset d = record { alive = lives_after.1 ∙ h.alive; near = h.near; near_offset = h.near_offset } in
     let near_after : is_stray (object_at after.objects object).size o (bytes_of_kind kind) ≡ false = ap (λ (n : ℕ). is_stray n o (bytes_of_kind kind)) lives_after.0 ∙ near in
     subst (IsBack rule cycle kind line object offset d v) (sym is) (ap (λ (t : Target). load_at t rule cycle kind line after) (inside_target rule after object offset d kind reaches_after near_after) ∙ load_back cycle kind object o v w h.alive whole ((strays_are_others (object_at w.objects object).size o (bytes_of_kind kind)).0 near))
+
+-- ---- what a full granule gives
+
+some_number : (k place : ℕ) (es : List (Option ℕ)) → is_some (set_bytes es) ≡ true → (n : ℕ) × (read_number {P = Value} k place (bytes es) ≡ Some n)
+some_number k place es h =
+    let is = set_are es h in
+    let part : List ℕ = take k (drop place is.0) in
+    (from_bytes part, ap (λ (l : List (Option ℕ)). option_map from_bytes (set_bytes (take k (drop place l)))) is.1 ∙ ap (option_map from_bytes) (ap set_bytes (taken k place is.0) ∙ all_set part))
+  where
+    taken : (k place : ℕ) (zs : List ℕ) → take k (drop place (map Some zs)) ≡ map Some (take k (drop place zs))
+    taken k place zs = simp (take-map, drop-map)
+
+full_read : (kind : LoadKind) (o : ℤ) (c : Cell) → is_full c ≡ true → (v : Value) × (read_cell kind o c ≡ Some v)
+full_read (Num t) o (pointer p) h = (value.Num (number t 0), refl)
+full_read (Num t) o (bytes es) h =
+    let n = some_number (width t / 8) (place_in_granule o) es (full_set es h) in
+    (value.Num (number t n.0), ap (option_map (λ m. value.Num (number t m))) n.1)
+full_read Ptr o (pointer p) h = (p, refl)
+full_read Ptr o (bytes es) h =
+    let is = set_are es (full_set es h) in
+    (value.Null, ap (λ (l : List (Option ℕ)). option_map (λ (_ : List ℕ). value.Null) (set_bytes l)) is.1 ∙ ap (option_map (λ (_ : List ℕ). value.Null)) (all_set is.0))
+
+pub loads_inside_take_none : LoadsInsideTakeNone
+loads_inside_take_none rule cycle kind line object offset d w h whole near =
+    let o : ℤ = offset +ℤ d in
+    let c : Cell = own_cell w.objects object (granule o) in
+    let v = full_read kind o c (full_at (object_at w.objects object).own (unsigned_abs (granule o)) whole.full) in
+    (v.0, ap (λ (t : Target). load_at t rule cycle kind line w) (inside_target rule w object offset d kind h near) ∙ ap (λ (x : Option Value). or_made x cycle kind w) v.1)

@@ -56,14 +56,14 @@ size_same objects object other q cell =
 -- ---- where a store goes
 
 -- an access at a negative offset reaches no granule of the object's own
-negative_outside : (aligned kept : Bool) → (reach_if (not (aligned && false)) (stray_reach (kept && aligned) false) ≡ reaches.vanishing) ⊎ (reach_if (not (aligned && false)) (stray_reach (kept && aligned) false) ≡ reaches.outside)
+pub negative_outside : (aligned kept : Bool) → (reach_if (not (aligned && false)) (stray_reach (kept && aligned) false) ≡ reaches.vanishing) ⊎ (reach_if (not (aligned && false)) (stray_reach (kept && aligned) false) ≡ reaches.outside)
 negative_outside true true = inr refl
 negative_outside true false = inl refl
 negative_outside false true = inl refl
 negative_outside false false = inl refl
 
 -- what holds of a store whatever its target holds of it
-by_target : (P : Target → Type 0) (rule : Rule) (w : World) (object : ℕ) (offset d : ℤ) (k : ℕ) → P dead_object → P too_far → P (at object (offset +ℤ d) (reach (keeps rule) (object_at w.objects object).size (offset +ℤ d) k)) → P (target rule w.objects (value.Ptr object offset) d k)
+pub by_target : (P : Target → Type 0) (rule : Rule) (w : World) (object : ℕ) (offset d : ℤ) (k : ℕ) → P dead_object → P too_far → P (at object (offset +ℤ d) (reach (keeps rule) (object_at w.objects object).size (offset +ℤ d) k)) → P (target rule w.objects (value.Ptr object offset) d k)
 by_target P rule w object offset d k dead far near =
     by_tests (not (object_at w.objects object).alive) (is_far d) (is_far (offset +ℤ d))
   where
@@ -74,7 +74,7 @@ by_target P rule w object offset d k dead far near =
     by_tests false false false = near
 
 -- the objects after a store outside of them
-put_objects : (rule : Rule) (line object : ℕ) (g : ℤ) (cell : Cell) (w : World) → (end_of (put_outside rule line object g cell w)).objects ≡ w.objects
+pub put_objects : (rule : Rule) (line object : ℕ) (g : ℤ) (cell : Cell) (w : World) → (end_of (put_outside rule line object g cell w)).objects ≡ w.objects
 put_objects vanish line object g cell w = refl
 put_objects (kept cap) line object g cell w = refl
 put_objects (unlimited cap) line object g cell w = by_test (is_some (listed_cell object g w.outside) || nat_lt (length w.outside) cap)

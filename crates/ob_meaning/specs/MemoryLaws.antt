@@ -1,7 +1,8 @@
 -- Laws of accesses and deaths, in the subject's own words.
-use Rattle.std.specs.Prelude.{◌≡◌, ℕ, Bool, true, false, not, ◌&&◌, ℤ, pos, ◌+ℤ◌, List, length, All, Some, None}
+use Rattle.std.specs.Prelude.{◌≡◌, ℕ, ◌==◌, Bool, true, false, not, ◌&&◌, is_some, ℤ, pos, ◌+ℤ◌, List, length, All, Some, None}
 use Rattle.std.specs.List.{count_by}
 use Rattle.ob_words.specs.Conversion.{convert}
+use Rattle.ob_model.specs.declared.settings.RunSettings.{RunSettings}
 use Rattle.ob_model.specs.declared.strays.Act.{Act}
 use Rattle.ob_model.specs.declared.strays.Act.TheVariants as act
 use Rattle.ob_model.specs.declared.strays.StrayEvent.{StrayEvent}
@@ -11,11 +12,14 @@ use Rattle.ob_model.specs.declared.values.Value.{Value}
 use Rattle.ob_model.specs.declared.values.Value.TheVariants as value
 use Rattle.ob_model.specs.Accesses.{bytes_of_kind, granule, is_far, is_own, is_aligned, is_stray, own_granules}
 use Rattle.ob_model.specs.Bounded.{listed_cell}
-use Rattle.ob_model.specs.Cells.{has_eight}
+use Rattle.ob_model.specs.Cells.{bytes, pointer, set_bytes}
+use Rattle.ob_model.specs.Endings.{InputEnd}
 use Rattle.ob_model.specs.Manufactured.{place_after}
+use Rattle.ob_typed.specs.TypedTree.{TypedProgram}
 use Rattle.ob_meaning.specs.Accesses.{load, store, outside_cell}
 use Rattle.ob_meaning.specs.Memory.{Object, object_at, own_cell}
-use Rattle.ob_meaning.specs.Values.{made_value, nothing, number_of, read_cell}
+use Rattle.ob_meaning.specs.Runs.{meaning_end}
+use Rattle.ob_meaning.specs.Values.{Cell, made_value, nothing, number_of, read_cell}
 use Rattle.ob_meaning.specs.World.{Rule, vanish, unlimited, World, Run, go, end_of, stray_event, told, without}
 
 -- the two name one granule of one object
@@ -122,10 +126,15 @@ abbrev pub as_stored : LoadKind → Value → Value
 as_stored (Num t) v = value.Num (convert t (number_of v))
 as_stored Ptr v = v
 
--- an object with each of its own granules, all of eight bytes
+-- a granule of eight bytes that are all set, or of a pointer
+abbrev pub is_full : Cell → Bool
+is_full (pointer p) = true
+is_full (bytes es) = (length es == 8) && is_some (set_bytes es)
+
+-- an object with each of its own granules, and no unset byte in them
 pub record IsWhole (o : Object) : Type 0 where
   pub granules : length o.own ≡ own_granules o.size
-  pub eight : All (λ cell. has_eight cell ≡ true) o.own
+  pub full : All (λ cell. is_full cell ≡ true) o.own
 
 -- inside of its object, under each rule
 abbrev pub StoredIsLoaded : Type 0
@@ -136,6 +145,21 @@ StoredIsLoaded =
     is_stray (object_at w.objects object).size (offset +ℤ d) (bytes_of_kind kind) ≡ false →
     let after = stored rule kind line (value.Ptr object offset) d v w in
     load rule cycle kind line (value.Ptr object offset) d after ≡ go (as_stored kind v) after
+
+-- a load inside of its object takes no manufactured value and changes nothing
+abbrev pub LoadsInsideTakeNone : Type 0
+LoadsInsideTakeNone =
+    (rule : Rule) (cycle : List ℕ) (kind : LoadKind) (line object : ℕ) (offset d : ℤ) (w : World) →
+    Reaches w object offset d →
+    IsWhole (object_at w.objects object) →
+    is_stray (object_at w.objects object).size (offset +ℤ d) (bytes_of_kind kind) ≡ false →
+    (v : Value) × (load rule cycle kind line (value.Ptr object offset) d w ≡ go v w)
+
+-- each object of each run is whole
+abbrev pub RunsKeepObjectsWhole : Type 0
+RunsKeepObjectsWhole =
+    (program : TypedProgram) (rule : Rule) (settings : RunSettings) (cycle : List ℕ) (place : ℕ) (input : List ℕ) (input_end : InputEnd) (steps object : ℕ) →
+    IsWhole (object_at (meaning_end program rule settings cycle place input input_end steps).objects object)
 
 -- ---- deaths
 
