@@ -3,6 +3,7 @@ use Rattle.std.proofs.Common.{◌≡◌, ◌↔◌, ℕ, ◌+◌, ◌/◌, ◌%�
 use Rattle.std.proofs.lemmas.Bool.Decides.{nat_tests}
 use Rattle.std.proofs.lemmas.Int.{ints}
 use borrow.Author.Differences.{same_in, sum_is_lem, product_is}
+use Rattle.ob_model.proofs.Conjunctions.{and_true}
 use Rattle.ob_model.specs.Accesses.{IsInside, is_inside, is_aligned, is_stray, granule, place_in_granule, own_granules, is_own, Reach, inside, vanishing, reach, reach_if, stray_reach}
 
 pub eight_places : (offset : ℤ) → (offset ≡ granule offset *ℤ pos 8 +ℤ pos (place_in_granule offset)) × (place_in_granule offset < 8)
@@ -25,10 +26,9 @@ inside_test size (pos n) k = (
 )
 inside_test size (negsuc n) k = (λ h. absurd (cc), λ h. absurd (omega (arith, ints, h.0)))
 
-both : (a b : Bool) → not (a && b) ≡ false → (a ≡ true) × (b ≡ true)
-both true true h = (refl, refl)
-both true false h = absurd (cc)
-both false b h = absurd (cc)
+not_false : (b : Bool) → not b ≡ false → b ≡ true
+not_false true h = refl
+not_false false h = absurd (cc)
 
 neither : (a b : Bool) → a ≡ true → b ≡ true → not (a && b) ≡ false
 neither true true g h = refl
@@ -38,7 +38,7 @@ neither false b g h = absurd (cc)
 pub strays_are_others : (size : ℕ) (offset : ℤ) (k : ℕ) → (is_stray size offset k ≡ false) ↔ ((unsigned_abs offset % k ≡ 0) × IsInside size offset k)
 strays_are_others size offset k = (
   λ h.
-      let parts = both (is_aligned offset k) (is_inside size offset k) h in
+      let parts = and_true (is_aligned offset k) (is_inside size offset k) (not_false (is_aligned offset k && is_inside size offset k) h) in
       let aligned : (unsigned_abs offset % k == 0) ≡ true = parts.0 in
       (grind (arith, nat_tests), (inside_test size offset k).0 parts.1),
   λ h.

@@ -1,3 +1,4 @@
+pub mod Conjunctions
 pub mod FirstFits
 pub mod HeapLists
 pub mod Astray

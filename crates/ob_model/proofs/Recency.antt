@@ -2,6 +2,7 @@
 use Rattle.std.proofs.Common.{◌≡◌, ℕ, suc, ◌+◌, ◌<◌, Bool, true, false, not, cond, ℤ, List, [], ◌∷◌, ◌++◌, length, take, Option, Some, None, arith, refl, ◌∙◌, ap, slice_get}
 use Rattle.std.specs.List.{find}
 use Rattle.std.specs.Option.{option_map}
+use Rattle.std.proofs.lemmas.Bool.{cond-true, cond-false}
 use Rattle.std.proofs.lemmas.Bool.Decides.{nat_tests, Decides-int_eq}
 use Rattle.std.proofs.lemmas.List.{take_all}
 use Rattle.std.proofs.lemmas.Option.{slice_get_past}
@@ -22,22 +23,14 @@ more_others object granule e es others = All-tail (IsOther object granule) e es 
 is_its_own : (object : ℕ) (granule : ℤ) (cell : ℕ) → is_of object granule (entry_of object granule cell) ≡ true
 is_its_own object granule cell = grind (arith, nat_tests, Decides-int_eq)
 
-cond_yes : {A : Type 0} (b : Bool) (x y : A) → b ≡ true → cond b x y ≡ x
-cond_yes true x y h = refl
-cond_yes false x y h = absurd (cc)
-
-cond_no : {A : Type 0} (b : Bool) (x y : A) → b ≡ false → cond b x y ≡ y
-cond_no true x y h = absurd (cc)
-cond_no false x y h = refl
-
 -- the one entry of a granule, among others
 find-others : (object : ℕ) (granule : ℤ) (es : List (Listed ℕ)) → AreOthers object granule es → find (is_of object granule) es ≡ None
 find-others object granule [] others = refl
-find-others object granule (e ∷ es) others = cond_no (is_of object granule e) (Some e) (find (is_of object granule) es) (first_other object granule e es others) ∙ find-others object granule es (more_others object granule e es others)
+find-others object granule (e ∷ es) others = cond-false (is_of object granule e) (Some e) (find (is_of object granule) es) (first_other object granule e es others) ∙ find-others object granule es (more_others object granule e es others)
 
 find-among : (object : ℕ) (granule : ℤ) (cell : ℕ) (before behind : List (Listed ℕ)) → AreOthers object granule (before ++ behind) → find (is_of object granule) (before ++ entry_of object granule cell ∷ behind) ≡ Some (entry_of object granule cell)
-find-among object granule cell [] behind others = cond_yes (is_of object granule (entry_of object granule cell)) (Some (entry_of object granule cell)) (find (is_of object granule) behind) (is_its_own object granule cell)
-find-among object granule cell (e ∷ es) behind others = cond_no (is_of object granule e) (Some e) (find (is_of object granule) (es ++ entry_of object granule cell ∷ behind)) (first_other object granule e (es ++ behind) others) ∙ find-among object granule cell es behind (more_others object granule e (es ++ behind) others)
+find-among object granule cell [] behind others = cond-true (is_of object granule (entry_of object granule cell)) (Some (entry_of object granule cell)) (find (is_of object granule) behind) (is_its_own object granule cell)
+find-among object granule cell (e ∷ es) behind others = cond-false (is_of object granule e) (Some e) (find (is_of object granule) (es ++ entry_of object granule cell ∷ behind)) (first_other object granule e (es ++ behind) others) ∙ find-among object granule cell es behind (more_others object granule e (es ++ behind) others)
 
 without-others : (object : ℕ) (granule : ℤ) (es : List (Listed ℕ)) → AreOthers object granule es → without_granule object granule es ≡ es
 without-others object granule [] others = refl

@@ -1,26 +1,16 @@
 -- The words of slots.
-use Rattle.std.proofs.Common.{◌≡◌, ◌≢◌, ℕ, ◌-◌, ◌/◌, ◌%◌, ◌^◌, ◌≤◌, ◌==◌, ◌&&◌, Bool, true, false, nat_le, Option, None, if◌then◌else◌, arith, refl, ◌∙◌, ap}
+use Rattle.std.proofs.Common.{◌≡◌, ◌≢◌, ℕ, ◌-◌, ◌/◌, ◌%◌, ◌^◌, ◌≤◌, ◌==◌, Bool, true, false, nat_le, None, if◌then◌else◌, arith, refl, ◌∙◌, ap}
+use Rattle.std.proofs.lemmas.Bool.{cond-true}
 use Rattle.std.proofs.lemmas.Bool.Decides.{nat_tests}
-use Rattle.ob_model.specs.Descriptors.{Pair, Slots, pair_in, word_of, is_slot_word, named_pair}
-
-yes_is : (b : Bool) (x y : Option Pair) → b ≡ true → (if b then x else y) ≡ x
-yes_is true x y h = refl
-yes_is false x y h = absurd (cc)
-
-no_is : (b : Bool) (x y : Option Pair) → b ≡ false → (if b then x else y) ≡ y
-no_is true x y h = absurd (cc)
-no_is false x y h = refl
+use Rattle.ob_model.proofs.Conjunctions.{and_true}
+use Rattle.ob_model.specs.Descriptors.{Slots, pair_in, word_of, is_slot_word, named_pair}
 
 pub words_name : (slots : Slots) (k : ℕ) → named_pair slots (word_of k) ≡ pair_in slots k
 words_name slots k =
     let low : nat_le (2 ^ 40) (word_of k) ≡ true = grind (arith, nat_tests) in
     let multiple : ((word_of k - 2 ^ 40) % 16 == 0) ≡ true = grind (arith, nat_tests) in
     let slot : (word_of k - 2 ^ 40) / 16 ≡ k = omega arith in
-    yes_is (is_slot_word (word_of k)) (pair_in slots ((word_of k - 2 ^ 40) / 16)) None (rw (low, multiple) refl) ∙ ap (pair_in slots) slot
-
-and_true : (a b : Bool) → (a && b) ≡ true → (a ≡ true) × (b ≡ true)
-and_true true b h = (refl, h)
-and_true false b h = absurd (cc)
+    cond-true (is_slot_word (word_of k)) (pair_in slots ((word_of k - 2 ^ 40) / 16)) None (rw (low, multiple) refl) ∙ ap (pair_in slots) slot
 
 pub others_name_nothing : (slots : Slots) (w : ℕ) → ((k : ℕ) → w ≢ word_of k) → named_pair slots w ≡ None
 others_name_nothing slots w other = by_test (is_slot_word w) refl
