@@ -16,3 +16,14 @@ pub mod ProgramView
 pub mod Types
 pub mod TypeView
 pub mod Sizes
+pub mod Parts
+pub mod Levels
+pub mod Integers
+pub mod Valid
+pub mod Places
+pub mod Paths
+pub mod Fronts
+pub mod ProgramValid
+pub mod ProgramPlaces
+pub mod ProgramPaths
+pub mod ProgramFronts

@@ -3,7 +3,7 @@
 -- elements of an array lie one behind another. Each member of a structure stands at the least multiple of
 -- its alignment that is past the member before; the structure has the greatest alignment of its members,
 -- and its size is rounded up to it.
-use Rattle.std.specs.Prelude.{◌≡◌, ◌≤◌, ℕ, zero, suc, ◌+◌, ◌-◌, ◌*◌, ◌/◌, max, Bool, true, false, nat_le, if◌then◌else◌, Option, Some, None, option_map, option_and_then, List, [], ◌∷◌, length, slice_get, map, sum}
+use Rattle.std.specs.Prelude.{◌≡◌, ◌≤◌, ℕ, zero, suc, ◌+◌, ◌-◌, ◌*◌, ◌/◌, ◌%◌, max, Bool, true, false, IsTrue, nat_le, if◌then◌else◌, Option, Some, None, option_map, option_and_then, List, [], ◌∷◌, length, slice_get, map, sum}
 use Rattle.std.specs.Option.{is_some}
 use Rattle.std.specs.Str.{bytes_eq}
 use Rattle.ob_words.specs.declared.types.IntType.{IntType}
@@ -21,9 +21,13 @@ pub record Layout : Type 0 where
 abbrev pub most_bytes : ℕ
 most_bytes = 4194304
 
+-- how many bytes of padding follow n bytes up to a multiple of `align`
+abbrev pub padding : (n align : ℕ) → ℕ
+padding n align = (align - n % align) % align
+
 -- the least multiple of `align` that is at least n
 abbrev pub round_up : (n align : ℕ) → ℕ
-round_up n align = align * ((n + (align - 1)) / align)
+round_up n align = n + padding n align
 
 -- m is the least multiple of `align` that is at least n
 pub record IsRoundUp (n align m : ℕ) : Type 0 where
@@ -104,10 +108,18 @@ scalars structs t = (laid (layout structs t)).scalars
 abbrev pub has_size : PlainStructs → PlainType → Bool
 has_size structs t = is_some (layout structs t)
 
--- a type that an object can have: it has a size, and at most so many bytes as an object may have
-pub record IsComplete (structs : PlainStructs) (t : PlainType) : Type 0 where
-  pub known : (l : Layout) × (layout structs t ≡ Some l)
-  pub within : size structs t ≤ most_bytes
+-- a layout that is known, and small enough for an object
+abbrev pub fits_object : Option Layout → Bool
+fits_object None = false
+fits_object (Some l) = nat_le l.size most_bytes
+
+-- A type that an object can have. It isn't `void`; each structure that it holds, other than behind a
+-- pointer, has its members, and none of these holds itself; and it has at most so many bytes.
+abbrev pub is_complete : PlainStructs → PlainType → Bool
+is_complete structs t = fits_object (layout structs t)
+
+abbrev pub IsComplete : PlainStructs → PlainType → Type 0
+IsComplete structs t = IsTrue (is_complete structs t)
 
 -- where a member lies in its structure, which of the members it is, counted from 0, and its type
 pub record MemberPlace : Type 0 where

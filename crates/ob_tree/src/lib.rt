@@ -7,6 +7,8 @@ pub use constants::{Base, Suffix};
 pub use expressions::{Dim, Expr, ExprNode, Init, MemberDecl, ObjDecl, Spec, SpecNode, TypeName};
 pub use faults::{LexFault, LexKind, SourceFault, SyntaxFault, SyntaxKind, TypeFault, TypeKind};
 pub use first::{First, FirstFault, law_first_text, parse_first};
+pub use one_program::law_spell;
+pub use one_tree::{law_expression, law_specifier};
 pub use program_spelling::spell;
 pub use programs::{
     BlockItem, FileDecl, ForStart, Item, ItemNode, Local, Param, Params, Program, Stmt, StmtNode,
@@ -19,11 +21,15 @@ mod constants;
 mod expressions;
 mod faults;
 mod first;
+mod one_program;
+mod one_tree;
 mod program_spelling;
 mod programs;
 mod spelling;
 mod statement;
 mod sum;
+#[cfg(test)]
+mod tests;
 mod text;
 mod tokens;
 mod types;

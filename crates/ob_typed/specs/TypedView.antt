@@ -1,5 +1,5 @@
 -- What the typed trees of the program are without their boxes and vectors.
-use Rattle.std.specs.Prelude.{ℕ, Option, Some, None, List, [], ◌∷◌, map}
+use Rattle.std.specs.Prelude.{ℕ, Option, Some, None, map}
 use Rattle.ob_tree.specs.declared.types.CType.{CType}
 use Rattle.ob_tree.specs.TypeView.{plain_type, plain_types, plain_structs}
 use Rattle.ob_typed.specs.declared.expressions.TExpr.{TExpr}

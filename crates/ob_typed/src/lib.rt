@@ -10,6 +10,7 @@ pub use statements::{TInit, TStmt};
 pub use statics::{StaticImage, StaticPointer, TStatic};
 
 mod expressions;
+pub mod laws;
 mod names;
 mod program;
 mod statements;

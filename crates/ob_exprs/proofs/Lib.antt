@@ -1,0 +1,14 @@
+pub mod Begun
+pub mod Heights
+pub mod Within
+pub mod Reach
+pub mod Shapes
+pub mod Adding
+pub mod Kept
+pub mod Sound
+pub mod SoundAfter
+pub mod SoundSpecs
+pub mod Filling
+pub mod Fills
+pub mod Complete
+pub mod States

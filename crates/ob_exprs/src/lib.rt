@@ -1,0 +1,7 @@
+//! The parser of expressions and specifiers: what begins at a token, or the first token that can't
+//! stand there (C99 6.5, 6.7.2). Stands on `ob_tree`.
+#![tactic(auto)]
+
+pub use level::Level;
+
+mod level;

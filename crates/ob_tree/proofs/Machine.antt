@@ -1,0 +1,431 @@
+-- A machine that reads an expression or a specifier token by token. It holds the nodes that have begun and
+-- aren't whole yet as a stack of frames, the newest first, and what was read behind them.
+use Rattle.std.specs.Prelude.{ℕ, ◌+◌, List, [], ◌∷◌, ◌++◌, Bool, false, true, Option, Some, None, cond, ◌&&◌, nat_lt, nat_le}
+use Rattle.ob_tree.specs.declared.tokens.TokenKind.{TokenKind}
+use Rattle.ob_tree.specs.declared.tokens.TokenKind.TheVariants as kind
+use Rattle.ob_tree.specs.declared.tokens.Keyword.{Keyword}
+use Rattle.ob_tree.specs.declared.tokens.Keyword.TheVariants as word
+use Rattle.ob_tree.specs.declared.tokens.Sign.{Sign}
+use Rattle.ob_tree.specs.declared.tokens.Sign.TheVariants as sign
+use Rattle.ob_tree.specs.Trees.{Mark, Infix, ExprTree, ExprTrees, TypeTree, SpecTree, MemberTrees, ObjTree, ObjTrees, DimTrees}
+use Rattle.ob_tree.specs.Levels.{binary_level, is_assign, is_unary, infix_level, left_level, right_level, level_of, mark_of}
+use Rattle.ob_tree.specs.Integers.{is_integer}
+use Rattle.ob_tree.specs.Places.{here}
+
+-- a structure specifier that has begun: the place of its first token, its tag, and the members before this one
+pub record Body : Type 0 where
+  pub first : ℕ
+  pub tag : Option (List ℕ)
+  pub members : MemberTrees
+
+-- a line of members that has begun: its specifier, and the names before this one
+pub record Line : Type 0 where
+  pub body : Body
+  pub spec : SpecTree
+  pub names : ObjTrees
+
+-- what a row of brackets stands behind: the stars of the type name of a cast or, where sized, of a `sizeof`; or
+-- the stars and the name of a member
+pub data Head : Type 0 where
+  OfType : (mark : Mark) → (sized : Bool) → (spec : SpecTree) → (stars : ℕ) → Head
+  OfMember : (line : Line) → (stars : ℕ) → (name : List ℕ) → (at : ℕ) → Head
+
+-- a node that waits for its last part
+pub data Frame : Type 0 where
+  InParen : (mark : Mark) → Frame
+  InIndex : (mark : Mark) → (base : ExprTree) → Frame
+  InCall : (mark : Mark) → (name : List ℕ) → (arguments : ExprTrees) → Frame
+  InStep : (mark : Mark) → (down : Bool) → Frame
+  InUnary : (mark : Mark) → (sign : Sign) → Frame
+  InSize : (mark : Mark) → Frame
+  InCast : (mark : Mark) → (name : TypeTree) → Frame
+  InJoin : (mark : Mark) → (op : Infix) → (left : ExprTree) → Frame
+  InThen : (mark : Mark) → (test : ExprTree) → Frame
+  InElse : (mark : Mark) → (test then : ExprTree) → Frame
+  InLength : (head : Head) → (dims : DimTrees) → Frame
+  -- a cast or, where sized, a `sizeof` that waits for the specifier of its type name
+  InType : (mark : Mark) → (sized : Bool) → Frame
+  -- a structure that waits for a member's specifier
+  InStruct : (body : Body) → Frame
+
+pub data State : Type 0 where
+  -- an operand comes
+  Operand : List Frame → State
+  -- an opening parenthesis was read, of a cast or not
+  Open : (mark : Mark) → List Frame → State
+  -- `sizeof` was read
+  Size : (mark : Mark) → List Frame → State
+  -- `sizeof` and an opening parenthesis were read, of a type name or not
+  SizeOpen : (mark paren : Mark) → List Frame → State
+  -- a name and an opening parenthesis were read
+  Called : (mark : Mark) → (name : List ℕ) → List Frame → State
+  -- an operand and `.` or, where arrow, `->` were read
+  Select : (mark : Mark) → (arrow : Bool) → (base : ExprTree) → List Frame → State
+  -- a whole operand was read
+  After : ExprTree → List Frame → State
+  -- a specifier comes
+  Specifier : List Frame → State
+  -- `struct` was read
+  StructWord : (first : ℕ) → List Frame → State
+  -- the opening brace of a structure was read, or a semicolon behind a line of members
+  Members : Body → List Frame → State
+  -- a member's stars were read
+  Declare : Line → (stars : ℕ) → List Frame → State
+  -- a row of brackets was read
+  Dims : Head → DimTrees → List Frame → State
+  -- a specifier was read that is whole
+  AfterSpec : SpecTree → List Frame → State
+
+-- the level that stands where no expression does
+abbrev pub no_level : ℕ
+no_level = 17
+
+-- the nonterminal of the operand that a frame waits for
+abbrev pub hole : Frame → ℕ
+hole (InParen m) = 0
+hole (InIndex m b) = 0
+hole (InCall m name es) = 1
+hole (InStep m down) = 14
+hole (InUnary m s) = 13
+hole (InSize m) = 14
+hole (InCast m t) = 13
+hole (InJoin m op l) = right_level op
+hole (InThen m c) = 0
+hole (InElse m c x) = 2
+hole (InLength h ds) = 2
+hole (InType m z) = 17
+hole (InStruct b) = 17
+
+-- the level that a sign behind the operand has to be below to close the frame: none closes a frame that waits for
+-- a token
+abbrev pub grip : Frame → ℕ
+grip (InParen m) = 0
+grip (InIndex m b) = 0
+grip (InCall m name es) = 0
+grip (InStep m down) = 14
+grip (InUnary m s) = 13
+grip (InSize m) = 14
+grip (InCast m t) = 13
+grip (InJoin m op l) = right_level op
+grip (InThen m c) = 0
+grip (InElse m c x) = 2
+grip (InLength h ds) = 0
+grip (InType m z) = 0
+grip (InStruct b) = 0
+
+-- `least` is the level of the expression that is read, or no level where a specifier is read
+abbrev pub top_hole : (least : ℕ) → List Frame → ℕ
+top_hole least [] = least
+top_hole least (f ∷ fs) = hole f
+
+-- the node with its last operand
+abbrev pub close : Frame → ExprTree → ExprTree
+close (InStep m down) e = ExprTree.Step m false down e
+close (InUnary m s) e = ExprTree.Unary m s e
+close (InSize m) e = ExprTree.SizeExpr m e
+close (InCast m t) e = ExprTree.Cast m t e
+close (InJoin m op l) e = ExprTree.Join m op l e
+close (InElse m c x) e = ExprTree.Cond m c x e
+close f e = e
+
+-- the frames whose operand binds tighter than n are closed
+abbrev pub reduce : (n : ℕ) → ExprTree → List Frame → ExprTree × List Frame
+reduce n e [] = (e, [])
+reduce n e (f ∷ fs) = cond (nat_lt n (grip f)) (reduce n (close f e) fs) (e, f ∷ fs)
+
+-- lists with one item more
+abbrev pub add_argument : ExprTrees → ExprTree → ExprTrees
+add_argument ExprTrees.NoArguments e = ExprTrees.Argument e ExprTrees.NoArguments
+add_argument (ExprTrees.Argument x es) e = ExprTrees.Argument x (add_argument es e)
+
+abbrev pub add_dim : DimTrees → ExprTree → DimTrees
+add_dim DimTrees.NoDims e = DimTrees.Sized e DimTrees.NoDims
+add_dim (DimTrees.Unsized ds) e = DimTrees.Unsized (add_dim ds e)
+add_dim (DimTrees.Sized x ds) e = DimTrees.Sized x (add_dim ds e)
+
+abbrev pub add_obj : ObjTrees → ObjTree → ObjTrees
+add_obj ObjTrees.NoDeclarators o = ObjTrees.Declarator o ObjTrees.NoDeclarators
+add_obj (ObjTrees.Declarator x os) o = ObjTrees.Declarator x (add_obj os o)
+
+abbrev pub add_member : MemberTrees → SpecTree → ObjTrees → MemberTrees
+add_member MemberTrees.NoMembers s names = MemberTrees.MemberLine s names MemberTrees.NoMembers
+add_member (MemberTrees.MemberLine t others ms) s names = MemberTrees.MemberLine t others (add_member ms s names)
+
+-- a mark with the sign at q
+abbrev pub at_sign : Mark → (q : ℕ) → Mark
+at_sign m q = record { first = m.first; at = q; line = m.line }
+
+-- A specifier comes.
+abbrev pub is_spec_word : Keyword → Bool
+is_spec_word word.Void = true
+is_spec_word word.SizeT = true
+is_spec_word word.Char = true
+is_spec_word word.Short = true
+is_spec_word word.Int = true
+is_spec_word word.Long = true
+is_spec_word word.Signed = true
+is_spec_word word.Unsigned = true
+is_spec_word word.Struct = true
+is_spec_word w = false
+
+abbrev pub spec_word : ℕ → Keyword → List Frame → Option State
+spec_word p word.Void fs = Some (AfterSpec (SpecTree.Void p) fs)
+spec_word p word.SizeT fs = Some (AfterSpec (SpecTree.SizeT p) fs)
+spec_word p word.Struct fs = Some (StructWord p fs)
+spec_word p w fs = cond (is_integer (w ∷ [])) (Some (AfterSpec (SpecTree.Integer p (w ∷ [])) fs)) None
+
+abbrev pub specifier : ℕ → TokenKind → List Frame → Option State
+specifier p (kind.Word w) fs = spec_word p w fs
+specifier p k fs = None
+
+-- An operand comes, at this mark.
+abbrev pub operand_word : Mark → Keyword → List Frame → Option State
+operand_word m word.Null fs = Some (After (ExprTree.Null m) fs)
+operand_word m word.Eof fs = Some (After (ExprTree.Eof m) fs)
+operand_word m word.Sizeof fs = Some (Size m fs)
+operand_word m w fs = None
+
+abbrev pub operand_sign : Mark → Sign → List Frame → Option State
+operand_sign m sign.OpenParen fs = Some (Open m fs)
+operand_sign m sign.PlusPlus fs = Some (Operand (InStep m false ∷ fs))
+operand_sign m sign.MinusMinus fs = Some (Operand (InStep m true ∷ fs))
+operand_sign m s fs = cond (is_unary s) (Some (Operand (InUnary m s ∷ fs))) None
+
+abbrev pub operand : Mark → TokenKind → List Frame → Option State
+operand m (kind.Name name) fs = Some (After (ExprTree.Name m name) fs)
+operand m (kind.Number value ty) fs = Some (After (ExprTree.Number m value ty) fs)
+operand m (kind.Str s) fs = Some (After (ExprTree.Str m (s ∷ [])) fs)
+operand m (kind.Word w) fs = operand_word m w fs
+operand m (kind.Sign s) fs = operand_sign m s fs
+
+-- Behind an opening parenthesis a specifier begins the type name of a cast, where a cast may stand.
+abbrev pub opened_word : (least : ℕ) → Mark → Keyword → Mark → List Frame → Option State
+opened_word least m w paren fs = cond (is_spec_word w)
+    (cond (nat_le (top_hole least fs) 13) (spec_word m.first w (InType paren false ∷ fs)) None)
+    (operand_word m w (InParen paren ∷ fs))
+
+abbrev pub opened : (least : ℕ) → Mark → TokenKind → Mark → List Frame → Option State
+opened least m (kind.Word w) paren fs = opened_word least m w paren fs
+opened least m k paren fs = operand m k (InParen paren ∷ fs)
+
+-- Behind `sizeof` an opening parenthesis may be that of a type name.
+abbrev pub sized : Mark → TokenKind → Mark → List Frame → Option State
+sized m (kind.Sign sign.OpenParen) size fs = Some (SizeOpen size m fs)
+sized m k size fs = operand m k (InSize size ∷ fs)
+
+abbrev pub size_opened_word : Mark → Keyword → (size paren : Mark) → List Frame → Option State
+size_opened_word m w size paren fs = cond (is_spec_word w)
+    (spec_word m.first w (InType size true ∷ fs))
+    (operand_word m w (InParen paren ∷ (InSize size ∷ fs)))
+
+abbrev pub size_opened : Mark → TokenKind → (size paren : Mark) → List Frame → Option State
+size_opened m (kind.Word w) size paren fs = size_opened_word m w size paren fs
+size_opened m k size paren fs = operand m k (InParen paren ∷ (InSize size ∷ fs))
+
+-- Behind the opening parenthesis of a call: no argument, or the first one.
+abbrev pub called : Mark → TokenKind → Mark → List ℕ → List Frame → Option State
+called m (kind.Sign sign.CloseParen) call name fs = Some (After (ExprTree.Call call name ExprTrees.NoArguments) fs)
+called m k call name fs = operand m k (InCall call name ExprTrees.NoArguments ∷ fs)
+
+-- Behind `.` and `->` comes a name.
+abbrev pub selected : Mark → (arrow : Bool) → ExprTree → List ℕ → ExprTree
+selected m false b name = ExprTree.Member m b name
+selected m true b name = ExprTree.Arrow m b name
+
+abbrev pub select : TokenKind → Mark → Bool → ExprTree → List Frame → Option State
+select (kind.Name name) m arrow b fs = Some (After (selected m arrow b name) fs)
+select k m arrow b fs = None
+
+-- A sign behind a whole operand.
+abbrev pub index_to : ℕ → ExprTree → List Frame → Option State
+index_to p e fs = cond (nat_le 15 (level_of e)) (Some (Operand (InIndex (at_sign (mark_of e) p) e ∷ fs))) None
+
+abbrev pub select_to : ℕ → Bool → ExprTree → List Frame → Option State
+select_to p arrow e fs = cond (nat_le 15 (level_of e)) (Some (Select (at_sign (mark_of e) p) arrow e fs)) None
+
+abbrev pub step_to : ℕ → Bool → ExprTree → List Frame → Option State
+step_to p down e fs = cond (nat_le 15 (level_of e)) (Some (After (ExprTree.Step (at_sign (mark_of e) p) true down e) fs)) None
+
+-- a name is called
+abbrev pub call_to : ExprTree → List Frame → Option State
+call_to (ExprTree.Name m name) fs = Some (Called m name fs)
+call_to e fs = None
+
+-- one string literal more
+abbrev pub string_to : List ℕ → ExprTree → List Frame → Option State
+string_to s (ExprTree.Str m ss) fs = Some (After (ExprTree.Str m (ss ++ s ∷ [])) fs)
+string_to s e fs = None
+
+abbrev pub join_to : (least : ℕ) → Infix → ℕ → ExprTree × List Frame → Option State
+join_to least op p r = cond (nat_le (left_level op) (level_of r.0) && nat_le (top_hole least r.1) (infix_level op))
+    (Some (Operand (InJoin (at_sign (mark_of r.0) p) op r.0 ∷ r.1))) None
+
+abbrev pub then_to : (least : ℕ) → ℕ → ExprTree × List Frame → Option State
+then_to least p r = cond (nat_le 3 (level_of r.0) && nat_le (top_hole least r.1) 2)
+    (Some (Operand (InThen (at_sign (mark_of r.0) p) r.0 ∷ r.1))) None
+
+-- a comma ends an argument, or is an operator
+abbrev pub comma_to : (least : ℕ) → ℕ → ExprTree → List Frame → Option State
+comma_to least p e (InCall m name es ∷ fs) = Some (Operand (InCall m name (add_argument es e) ∷ fs))
+comma_to least p e fs = join_to least Infix.Comma p (e, fs)
+
+abbrev pub close_paren : ExprTree → List Frame → Option State
+close_paren e (InParen m ∷ fs) = Some (After (ExprTree.Paren m e) fs)
+close_paren e (InCall m name es ∷ fs) = Some (After (ExprTree.Call m name (add_argument es e)) fs)
+close_paren e fs = None
+
+abbrev pub close_bracket : ExprTree → List Frame → Option State
+close_bracket e (InIndex m b ∷ fs) = Some (After (ExprTree.Index m b e) fs)
+close_bracket e (InLength h ds ∷ fs) = Some (Dims h (add_dim ds e) fs)
+close_bracket e fs = None
+
+abbrev pub colon_to : ExprTree → List Frame → Option State
+colon_to e (InThen m c ∷ fs) = Some (Operand (InElse m c e ∷ fs))
+colon_to e fs = None
+
+-- an assignment operator, a binary operator, or none
+abbrev pub operator_to : (least : ℕ) → ℕ → Sign → ExprTree → List Frame → Option State
+operator_to least p s e fs = cond (is_assign s)
+    (join_to least (Infix.Assign s) p (reduce 1 e fs))
+    (cond (nat_lt 0 (binary_level s)) (join_to least (Infix.Binary s) p (reduce (binary_level s) e fs)) None)
+
+abbrev pub after_sign : (least : ℕ) → ℕ → Sign → ExprTree → List Frame → Option State
+after_sign least p sign.OpenBracket e fs = index_to p e fs
+after_sign least p sign.OpenParen e fs = call_to e fs
+after_sign least p sign.Dot e fs = select_to p false e fs
+after_sign least p sign.Arrow e fs = select_to p true e fs
+after_sign least p sign.PlusPlus e fs = step_to p false e fs
+after_sign least p sign.MinusMinus e fs = step_to p true e fs
+after_sign least p sign.Question e fs = then_to least p (reduce 2 e fs)
+after_sign least p sign.Comma e fs = comma_to least p (reduce 0 e fs).0 (reduce 0 e fs).1
+after_sign least p sign.CloseParen e fs = close_paren (reduce 0 e fs).0 (reduce 0 e fs).1
+after_sign least p sign.CloseBracket e fs = close_bracket (reduce 0 e fs).0 (reduce 0 e fs).1
+after_sign least p sign.Colon e fs = colon_to (reduce 0 e fs).0 (reduce 0 e fs).1
+after_sign least p s e fs = operator_to least p s e fs
+
+abbrev pub after : (least : ℕ) → ℕ → TokenKind → ExprTree → List Frame → Option State
+after least p (kind.Sign s) e fs = after_sign least p s e fs
+after least p (kind.Str s) e fs = string_to s e fs
+after least p k e fs = None
+
+-- the line with one name more, and the structure with one line more
+abbrev pub named : Line → (stars : ℕ) → List ℕ → (at : ℕ) → DimTrees → Line
+named l n name a ds = record { body = l.body; spec = l.spec; names = add_obj l.names (ObjTree.Bare n name a ds) }
+
+abbrev pub ended : Line → Body
+ended l = record { first = l.body.first; tag = l.body.tag; members = add_member l.body.members l.spec l.names }
+
+-- A sign behind a row of brackets.
+abbrev pub more_stars : Head → DimTrees → List Frame → Option State
+more_stars (OfType m z s n) DimTrees.NoDims fs = Some (Dims (OfType m z s (n + 1)) DimTrees.NoDims fs)
+more_stars h ds fs = None
+
+abbrev pub close_type : Head → DimTrees → List Frame → Option State
+close_type (OfType m false s n) ds fs = Some (Operand (InCast m (TypeTree.TypeName s n ds) ∷ fs))
+close_type (OfType m true s n) ds fs = Some (After (ExprTree.SizeType m (TypeTree.TypeName s n ds)) fs)
+close_type h ds fs = None
+
+abbrev pub next_name : Head → DimTrees → List Frame → Option State
+next_name (OfMember l n name a) ds fs = Some (Declare (named l n name a ds) 0 fs)
+next_name h ds fs = None
+
+abbrev pub end_line : Head → DimTrees → List Frame → Option State
+end_line (OfMember l n name a) ds fs = Some (Members (ended (named l n name a ds)) fs)
+end_line h ds fs = None
+
+abbrev pub dims_sign : Sign → Head → DimTrees → List Frame → Option State
+dims_sign sign.OpenBracket h ds fs = Some (Operand (InLength h ds ∷ fs))
+dims_sign sign.Star h ds fs = more_stars h ds fs
+dims_sign sign.CloseParen h ds fs = close_type h ds fs
+dims_sign sign.Comma h ds fs = next_name h ds fs
+dims_sign sign.Semi h ds fs = end_line h ds fs
+dims_sign s h ds fs = None
+
+abbrev pub after_dims : TokenKind → Head → DimTrees → List Frame → Option State
+after_dims (kind.Sign s) h ds fs = dims_sign s h ds fs
+after_dims k h ds fs = None
+
+-- A member's star, or its name at place p.
+abbrev pub declare : ℕ → TokenKind → Line → ℕ → List Frame → Option State
+declare p (kind.Sign sign.Star) l n fs = Some (Declare l (n + 1) fs)
+declare p (kind.Name name) l n fs = Some (Dims (OfMember l n name p) DimTrees.NoDims fs)
+declare p k l n fs = None
+
+-- What is behind the specifier of a type name or of a line of members.
+abbrev pub spec_under : ℕ → TokenKind → SpecTree → List Frame → Option State
+spec_under p k s (InType m z ∷ fs) = after_dims k (OfType m z s 0) DimTrees.NoDims fs
+spec_under p k s (InStruct b ∷ fs) = declare p k (record { body = b; spec = s; names = ObjTrees.NoDeclarators }) 0 fs
+spec_under p k s fs = None
+
+-- one word more of an integer type
+abbrev pub word_to : Keyword → SpecTree → List Frame → Option State
+word_to w (SpecTree.Integer f words) fs = cond (is_integer (words ++ w ∷ [])) (Some (AfterSpec (SpecTree.Integer f (words ++ w ∷ [])) fs)) None
+word_to w s fs = None
+
+-- the members of a structure with a tag begin
+abbrev pub brace_to : SpecTree → List Frame → Option State
+brace_to (SpecTree.Tag f tag) fs = Some (Members (record { first = f; tag = Some tag; members = MemberTrees.NoMembers }) fs)
+brace_to s fs = None
+
+abbrev pub after_spec : ℕ → TokenKind → SpecTree → List Frame → Option State
+after_spec p (kind.Word w) s fs = word_to w s fs
+after_spec p (kind.Sign sign.OpenBrace) s fs = brace_to s fs
+after_spec p k s fs = spec_under p k s fs
+
+-- Behind `struct` comes a tag, or the opening brace of its members.
+abbrev pub struct_to : TokenKind → ℕ → List Frame → Option State
+struct_to (kind.Name tag) f fs = Some (AfterSpec (SpecTree.Tag f tag) fs)
+struct_to (kind.Sign sign.OpenBrace) f fs = Some (Members (record { first = f; tag = None; members = MemberTrees.NoMembers }) fs)
+struct_to k f fs = None
+
+-- A closing brace stands behind at least one line of members.
+abbrev pub close_struct : ℕ → Option (List ℕ) → MemberTrees → List Frame → Option State
+close_struct f tag MemberTrees.NoMembers fs = None
+close_struct f tag (MemberTrees.MemberLine s names ms) fs = Some (AfterSpec (SpecTree.Struct f tag (MemberTrees.MemberLine s names ms)) fs)
+
+abbrev pub members_to : ℕ → TokenKind → Body → List Frame → Option State
+members_to p (kind.Sign sign.CloseBrace) b fs = close_struct b.first b.tag b.members fs
+members_to p k b fs = specifier p k (InStruct b ∷ fs)
+
+-- the next token, of this kind; the mark is that of a node that begins with it
+abbrev pub step : (least : ℕ) → Mark → TokenKind → State → Option State
+step least m k (Operand fs) = operand m k fs
+step least m k (Open paren fs) = opened least m k paren fs
+step least m k (Size size fs) = sized m k size fs
+step least m k (SizeOpen size paren fs) = size_opened m k size paren fs
+step least m k (Called call name fs) = called m k call name fs
+step least m k (Select n arrow b fs) = select k n arrow b fs
+step least m k (After e fs) = after least m.first k e fs
+step least m k (Specifier fs) = specifier m.first k fs
+step least m k (StructWord f fs) = struct_to k f fs
+step least m k (Members b fs) = members_to m.first k b fs
+step least m k (Declare l n fs) = declare m.first k l n fs
+step least m k (Dims h ds fs) = after_dims k h ds fs
+step least m k (AfterSpec s fs) = after_spec m.first k s fs
+
+abbrev pub step_if : (least : ℕ) → Mark → TokenKind → Option State → Option State
+step_if least m k None = None
+step_if least m k (Some s) = step least m k s
+
+-- tokens of these kinds, the first at place p
+abbrev pub run : (lines : ℕ → ℕ) → (least : ℕ) → (p : ℕ) → List TokenKind → Option State → Option State
+run lines least p [] s = s
+run lines least p (k ∷ ks) s = run lines least (p + 1) ks (step_if least (here lines p) k s)
+
+-- the whole expression, where nothing is open
+abbrev pub whole_of : ExprTree × List Frame → Option ExprTree
+whole_of (e, []) = Some e
+whole_of (e, f ∷ fs) = None
+
+abbrev pub finish : State → Option ExprTree
+finish (After e fs) = whole_of (reduce 0 e fs)
+finish s = None
+
+-- the whole specifier, where nothing is open
+abbrev pub spec_of : SpecTree → List Frame → Option SpecTree
+spec_of s [] = Some s
+spec_of s (f ∷ fs) = None
+
+abbrev pub finish_spec : State → Option SpecTree
+finish_spec (AfterSpec s fs) = spec_of s fs
+finish_spec s = None
