@@ -17,3 +17,4 @@ pub mod RelatedStatements
 pub mod Modes
 pub mod WholeObjects
 pub mod WholeRuns
+pub mod CountedScalars

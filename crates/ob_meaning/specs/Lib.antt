@@ -14,6 +14,7 @@ pub mod Runs
 pub mod FirstDrop
 pub mod Depth
 pub mod MemoryLaws
+pub mod TypeLaws
 pub mod ExampleTrees
 pub mod Examples
 pub mod ExampleRuns
