@@ -1,41 +1,26 @@
 -- What a type is made of (C99 6.2.5, 6.7.2.1): the elements or members of an array or a structure, and the scalars in it, which
 -- are the numbers and pointers, each with its offset in bytes.
-use Rattle.std.specs.Prelude.{ℕ, zero, suc, ◌+◌, ◌*◌, List, [], ◌∷◌, ◌++◌, length, Option, Some, None, slice_get}
+use Rattle.std.specs.Prelude.{ℕ, zero, suc, ◌+◌, List, [], ◌∷◌, ◌++◌, length, Option, Some, None, slice_get, unwrap_or}
 use Rattle.ob_model.specs.declared.values.LoadKind.{LoadKind}
 use Rattle.ob_model.specs.declared.values.LoadKind.TheVariants.{Num, Ptr}
+use Rattle.ob_tree.specs.Parts.{Part, part}
 use Rattle.ob_tree.specs.Sizes.{Layout, appended, laid, layout, next_offset, no_layout, size}
 use Rattle.ob_tree.specs.Types.{PlainType, PlainMember, PlainStruct, PlainStructs}
 use Rattle.ob_tree.specs.Types.PlainType.{Void, Int, Pointer, Array, Struct}
 
 -- ---- elements and members
 
-pub record Part : Type 0 where
-  pub offset : ℕ
-  pub ty : PlainType
-
+-- what stands for a part that a type hasn't
 abbrev pub no_part : Part
 no_part = record { offset = 0; ty = Void }
+
+-- element or member i
+abbrev pub part_of : PlainStructs → PlainType → ℕ → Part
+part_of structs t i = unwrap_or (part structs t i) no_part
 
 -- the layout of a member's type
 abbrev pub member_layout : PlainStructs → PlainMember → Layout
 member_layout structs m = laid (layout structs m.ty)
-
--- member i of some members, which follow others
-abbrev pub member_part : PlainStructs → Layout → List PlainMember → ℕ → Part
-member_part structs l [] i = no_part
-member_part structs l (m ∷ ms) zero = record { offset = next_offset l (member_layout structs m); ty = m.ty }
-member_part structs l (m ∷ ms) (suc i) = member_part structs (appended l (member_layout structs m)) ms i
-
-abbrev pub struct_part : PlainStructs → Option PlainStruct → ℕ → Part
-struct_part structs None i = no_part
-struct_part structs (Some r) i = member_part structs no_layout r.members i
-
-abbrev pub part_of : PlainStructs → PlainType → ℕ → Part
-part_of structs (Array t n) i = record { offset = i * size structs t; ty = t }
-part_of structs (Struct number) i = struct_part structs (slice_get structs number) i
-part_of structs Void i = no_part
-part_of structs (Int t) i = no_part
-part_of structs (Pointer t) i = no_part
 
 -- ---- scalars
 
