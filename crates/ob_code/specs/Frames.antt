@@ -9,9 +9,9 @@ use Rattle.ob_model.specs.Entries.{with_entry}
 use Rattle.ob_flat.specs.Memory.{field, with_field, with_zeros}
 use Rattle.ob_code.specs.declared.image.FunctionRow.{FunctionRow}
 use Rattle.ob_code.specs.declared.image.LocalRow.{LocalRow}
-use Rattle.ob_code.specs.State.{Call, Space, without_objects}
+use Rattle.ob_code.specs.State.{Call, Space, after_death}
 
--- a function of the image
+-- a function by its number
 abbrev pub no_function : FunctionRow
 no_function = record { entry = 0; params = 0; words = 0; vars = 0; allowance = 0; locals = [] }
 
@@ -98,4 +98,4 @@ abbrev pub is_among : ℕ → ℕ → ℕ → Bool
 is_among first count object = nat_le first object && nat_lt object (first + count)
 
 abbrev pub left_call : List FunctionRow → Call → List Call → Space → Space
-left_call functions c cs s = record (without_objects (is_among c.first (function_at functions c.function).vars) s) { calls = cs }
+left_call functions c cs s = record (after_death (is_among c.first (function_at functions c.function).vars) s) { calls = cs }

@@ -9,6 +9,7 @@ pub use image::{FunctionRow, Image, LocalRow, PointerRow, StaticRow};
 pub use instructions::Instr;
 pub use laws::{
     law_control_runs, law_number_runs, law_object_runs, law_pointer_runs, law_runs_are_bounded,
+    law_stray_runs,
 };
 pub use rows::Rows;
 pub use rules::functions::frame_length;

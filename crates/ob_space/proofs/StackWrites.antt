@@ -1,9 +1,9 @@
 -- What writes to the stack leave as it was, and what they write. The laws of memory come in as premises.
-use Rattle.std.proofs.Common.{◌≡◌, ℕ, ◌+◌, ◌%◌, ◌^◌, ◌<◌, ◌≤◌, ◌∙◌, sym, true, arith, inl, inr}
+use Rattle.std.proofs.Common.{◌≡◌, ℕ, ◌+◌, ◌%◌, ◌^◌, ◌<◌, ◌≤◌, ◌∙◌, true, arith, inl, inr}
 use Rattle.ob_flat.specs.Laws.{FieldIsRead, OtherFieldsAreKept, OthersAreKeptByZeros, LayoutIsKept}
 use Rattle.ob_flat.specs.Memory.{Memory, IsIn, field, with_field, with_zeros}
 use Rattle.ob_space.specs.Kept.{HasStack}
-use Rattle.ob_space.specs.Writes.{IsOnStack, KeepsBelow, frame_opened}
+use Rattle.ob_space.specs.Writes.{IsOnStack, KeepsBelow, WritesWord, frame_opened}
 
 pub on_stack : (m : Memory) (address n : ℕ) → HasStack m → IsOnStack address n → IsIn m address n
 on_stack m address n stack inside =
@@ -40,9 +40,9 @@ below_after : (old between new : Memory) (end : ℕ) → KeepsBelow old between 
 below_after old between new end first second address low high = second address low high ∙ first address low high
 
 -- what opening a frame gives
-pub record IsOpened (base link caller : ℕ) (old new : Memory) : Type 0 where
-  pub link : field new base 8 ≡ link
-  pub caller : field new (base + 8) 8 ≡ caller
+pub record IsOpened (base to caller : ℕ) (old new : Memory) : Type 0 where
+  pub link : field new base 8 ≡ to
+  pub outer : field new (base + 8) 8 ≡ caller
   pub below : KeepsBelow old new base
   pub stack : HasStack new
 
@@ -59,13 +59,19 @@ opened base length link caller m read others zeros layout stack inside long smal
     let has_link : HasStack linked = stack_put zeroed base link layout has_zeros first in
     record {
       link =
-        below_put linked (base + 8) caller others has_link second base inside.begins (omega arith)
-        ∙ read zeroed base 8 link has_zeros.laid_out (on_stack zeroed base 8 has_zeros first)
-        ∙ small link small_link;
-      caller = read linked (base + 8) 8 caller has_link.laid_out (on_stack linked (base + 8) 8 has_link second) ∙ small caller small_caller;
+          below_put linked (base + 8) caller others has_link second base inside.begins (omega arith)
+          ∙ read zeroed base 8 link has_zeros.laid_out (on_stack zeroed base 8 has_zeros first)
+          ∙ small link small_link;
+      outer = read linked (base + 8) 8 caller has_link.laid_out (on_stack linked (base + 8) 8 has_link second) ∙ small caller small_caller;
       below =
-        below_after m linked (with_field linked (base + 8) 8 caller) base
-        (below_after m zeroed linked base (below_zeros m base length zeros stack inside) (below_put zeroed base link others has_zeros first))
-        (below_less linked (with_field linked (base + 8) 8 caller) base (base + 8) (omega arith) (below_put linked (base + 8) caller others has_link second));
+          below_after m linked (with_field linked (base + 8) 8 caller) base
+          (below_after m zeroed linked base (below_zeros m base length zeros stack inside) (below_put zeroed base link others has_zeros first))
+          (below_less linked (with_field linked (base + 8) 8 caller) base (base + 8) (omega arith) (below_put linked (base + 8) caller others has_link second));
       stack = stack_put linked (base + 8) caller layout has_link second;
     }
+
+pub writes_word : (m : Memory) (address w : ℕ) → FieldIsRead → OtherFieldsAreKept → HasStack m → IsOnStack address 8 → w < 2 ^ 64 → WritesWord address w m (with_field m address 8 w)
+writes_word m address w read others stack inside fits = record {
+  written = read m address 8 w stack.laid_out (on_stack m address 8 stack inside) ∙ small w fits;
+  others = λ other n within apart. others m address 8 w other n stack.laid_out (on_stack m address 8 stack inside) within apart;
+}

@@ -1,6 +1,6 @@
 -- The calls in progress as a space keeps them: in the order in which they were entered, each without the place that it
 -- returns to, which is word 0 of its frame.
-use Rattle.std.specs.Prelude.{◌≡◌, ℕ, ◌<◌, List, [], ◌∷◌, length, map, reverse}
+use Rattle.std.specs.Prelude.{◌≡◌, ◌<◌, List, [], ◌∷◌, length, map, reverse}
 use Rattle.ob_flat.specs.Memory.{Memory, field}
 use Rattle.ob_code.specs.declared.image.FunctionRow.{FunctionRow}
 use Rattle.ob_code.specs.Frames.{next_base}

@@ -17,7 +17,7 @@ space_in m active next =
     record { memory = m; entries = []; slots = []; blocks = []; outside = []; calls = calls_in m active; next = next }
 
 -- a function's frame keeps the rules of images
-pub record IsRunnable (f : FunctionRow) : Type 0 where
+pub record CanBeCalled (f : FunctionRow) : Type 0 where
   pub sound : IsFrameSound f
   pub built : f.locals ≡ []
 
@@ -29,9 +29,10 @@ pub record HasStack (m : Memory) : Type 0 where
 
 -- frames lie one behind another and have their link words; `end` is where the next one begins. The stack has room for the
 -- allowances of the calls in progress, and so for their frames; and each takes 16 bytes at least, so that 65,536 calls is most
-pub record IsKept (functions : List FunctionRow) (m : Memory) (active : Vec Active) (taken end : ℕ) : Type 0 where
-  pub rows : (f : ℕ) → f < length functions → IsRunnable (function_at functions f)
+pub record IsKept (functions : List FunctionRow) (heap : ℕ) (m : Memory) (active : Vec Active) (taken end : ℕ) : Type 0 where
+  pub rows : (f : ℕ) → f < length functions → CanBeCalled (function_at functions f)
   pub memory : HasStack m
+  pub heap_bytes : m.heap ≡ heap
   pub stacked : AreStacked functions (calls_in m active.items)
   pub linked : AllHaveLinks m (calls_in m active.items)
   pub sum : taken ≡ allowances functions (calls_in m active.items)

@@ -1,6 +1,6 @@
--- The link words of frames. A checked access can't reach them, so that no program that goes on past a memory error changes
--- the place that a call returns to.
-use Rattle.std.specs.Prelude.{◌≡◌, ℕ, ◌+◌, ◌<◌, List, [], ◌∷◌, ◌++◌, length}
+-- The link words of frames. They lie among the bytes that a program's objects have, and a program goes on past memory errors,
+-- so it matters that nothing changes them while their call is in progress.
+use Rattle.std.specs.Prelude.{◌≡◌, ◌+◌, ◌<◌, List, [], ◌∷◌, ◌++◌, length}
 use Rattle.ob_flat.specs.Memory.{Memory, field}
 use Rattle.ob_code.specs.Frames.{top_base}
 use Rattle.ob_code.specs.State.{Call, Space}

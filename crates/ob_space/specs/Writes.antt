@@ -1,6 +1,6 @@
 -- Writes to the stack, and what they leave as it was.
-use Rattle.std.specs.Prelude.{◌≡◌, ℕ, ◌+◌, ◌≤◌}
-use Rattle.ob_flat.specs.Memory.{Memory, field, with_field, with_zeros}
+use Rattle.std.specs.Prelude.{◌≡◌, ℕ, ◌+◌, ◌≤◌, ◌⊎◌}
+use Rattle.ob_flat.specs.Memory.{Memory, IsIn, field, with_field, with_zeros}
 
 -- n bytes from an address on lie on the stack
 pub record IsOnStack (address n : ℕ) : Type 0 where
@@ -16,3 +16,11 @@ KeepsBelow old new end =
 abbrev pub frame_opened : ℕ → ℕ → ℕ → ℕ → Memory → Memory
 frame_opened base length link caller m =
     with_field (with_field (with_zeros m base length) base 8 link) (base + 8) 8 caller
+
+-- the word at an address was written, and no other byte changed
+pub record WritesWord (address w : ℕ) (old new : Memory) : Type 0 where
+  pub written : field new address 8 ≡ w
+  pub others : (other n : ℕ) →
+      IsIn old other n →
+      (address + 8 ≤ other) ⊎ (other + n ≤ address) →
+      field new other n ≡ field old other n

@@ -1,8 +1,6 @@
-ghost use Rattle.std.specs.Prelude.{◌≡◌, ◌<◌, ◌≤◌, ◌++◌, ◌∷◌, ◌^◌, vec_capacity, MatchOption, IfNone};
-ghost use Rattle.ob_code.specs.Frames.{top_base, top_function};
-ghost use Rattle.ob_code.specs.declared.image.FunctionRow.{FunctionRow};
+ghost use Rattle.std.specs.Prelude.{◌≡◌, ◌<◌, ◌≤◌, ◌++◌, [], ◌∷◌, length, vec_capacity};
+ghost use Rattle.ob_code.specs.Frames.{top_base};
 ghost use Rattle.ob_flat.specs.Memory.{Memory};
-ghost use Rattle.std.specs.Prelude.{List};
 ghost use Rattle.ob_space.specs.Calls.{calls_in};
 
 /// A call in progress: its function, the address of its frame, and the number of its first object. The
@@ -22,4 +20,13 @@ pub fn top_base(calls: &[Active]) -> u64
         Some(call) => call.base,
         None => 0,
     }
+}
+
+/// Puts a call at the end of the list, which has the memory for it.
+pub fn add_call(calls: &mut Vec<Active>, call: Active)
+    requires { length calls.old.items < vec_capacity calls.old }
+    ensures items { calls.new.items ≡ calls.old.items ++ call ∷ [] }
+    ensures capacity { vec_capacity calls.old ≤ vec_capacity calls.new }
+{
+    let _ = calls.push(call);
 }

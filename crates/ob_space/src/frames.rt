@@ -1,7 +1,7 @@
 ghost use Rattle.std.specs.Prelude.{◌≡◌, ◌+◌, ◌%◌, ◌≤◌, ◌^◌, ◌<◌};
 ghost use Rattle.ob_flat.specs.Memory.{Memory, IsLaidOut, field, with_field, with_zeros};
 ghost use Rattle.ob_space.specs.Kept.{HasStack};
-ghost use Rattle.ob_space.specs.Writes.{IsOnStack, KeepsBelow, frame_opened};
+ghost use Rattle.ob_space.specs.Writes.{IsOnStack, KeepsBelow, WritesWord, frame_opened};
 
 use ob_flat::Flat;
 use ob_flat::laws::{law_fields, law_layout, law_zeros};
@@ -33,6 +33,7 @@ pub fn put_in_frame(flat: &mut Flat, base: u64, address: u64, w: u64)
     requires inside { IsOnStack address 8 }
     requires behind { base + 16 ≤ address }
     ensures memory { flat.new ≡ with_field flat.old address 8 w }
+    ensures word { WritesWord address w flat.old flat.new }
     ensures below { KeepsBelow flat.old flat.new (base + 16) }
     ensures stack { HasStack flat.new }
 {

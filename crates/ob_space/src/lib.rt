@@ -8,6 +8,7 @@ pub use space::{Space, StackFull};
 
 mod calls;
 mod frames;
+pub mod laws;
 mod rows;
 mod space;
 #[cfg(test)]

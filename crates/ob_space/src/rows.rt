@@ -1,4 +1,5 @@
-ghost use Rattle.std.specs.Prelude.{◌≡◌, IfOk};
+ghost use Rattle.std.specs.Prelude.{◌≡◌, ◌<◌, length, IfOk};
+ghost use Rattle.ob_code.specs.Frames.{function_at};
 
 use ob_base::NoMemory;
 use ob_code::{FunctionRow, Rows};
@@ -27,4 +28,12 @@ pub fn copy_rows(alloc: Global, rows: &[FunctionRow]) -> Result<Rows<FunctionRow
         copies.push(copy_of(alloc, row)?)?;
     }
     Ok(Rows::from_vec(copies))
+}
+
+/// The row of a function.
+pub fn row_of(rows: &[FunctionRow], function: u32) -> &FunctionRow
+    requires { function < length rows.now }
+    ensures { result.now ≡ function_at rows.now function }
+{
+    &rows[function as usize]
 }

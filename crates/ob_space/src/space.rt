@@ -1,12 +1,13 @@
 ghost use Rattle.std.specs.Prelude.{◌≡◌, ◌+◌, ◌*◌, ◌<◌, ◌≤◌, ◌^◌, length, IfOk, MatchResult};
 ghost use Rattle.ob_model.specs.Settings.{IsFit};
-ghost use Rattle.ob_code.specs.Frames.{frame_word, with_word};
+ghost use Rattle.ob_code.specs.Frames.{frame_word, top_base, with_word};
 ghost use Rattle.ob_space.specs.Links.{KeepsLinks};
+ghost use Rattle.ob_space.specs.Writes.{WritesWord};
 ghost use Rattle.ob_space.specs.Loaded.{loaded, cleared, top_words, Enters, IsRefused, top_link, left};
 
-use crate::calls::{Active, top_base};
+use crate::calls::{Active, add_call, top_base};
 use crate::frames::{open_frame, put_in_frame};
-use crate::rows::copy_rows;
+use crate::rows::{copy_rows, row_of};
 use ob_base::NoMemory;
 use ob_code::{FunctionRow, Rows, Verified, frame_length};
 use ob_flat::Flat;
@@ -49,7 +50,7 @@ impl Model for Space {
 
     ghost view = { λ s. record { statics = []; pointers = []; functions = s.functions; settings = s.settings; space = space_in s.flat s.calls.items s.next } };
 
-    ghost invariant = { λ s. IsKept s.functions s.flat s.calls s.taken s.end };
+    ghost invariant = { λ s. IsKept s.functions s.settings.heap s.flat s.calls s.taken s.end };
 }
 
 impl Space {
@@ -94,7 +95,7 @@ impl Space {
         ensures answer { MatchResult result (λ _. Enters function link self.old self.new) (λ _. IsRefused function self.old self.new) }
         ensures links { KeepsLinks self.old.space self.new.space }
     {
-        let row = &self.functions.as_slice()[function as usize];
+        let row = row_of(self.functions.as_slice(), function);
         let allowance = row.allowance;
         if allowance > STACK_BYTES - self.taken {
             return Err(StackFull);
@@ -105,11 +106,14 @@ impl Space {
         let base = self.end;
         let first = self.next;
         open_frame(&mut self.flat, base, length, link, caller);
-        let _ = self.calls.push(Active {
-            function,
-            base,
-            first,
-        });
+        add_call(
+            &mut self.calls,
+            Active {
+                function,
+                base,
+                first,
+            },
+        );
         self.taken += allowance;
         self.end += length;
         self.next += vars;
@@ -125,7 +129,7 @@ impl Space {
     {
         let call = self.calls.pop()?;
         let link = self.flat.get(call.base, 8);
-        self.taken -= self.functions.as_slice()[call.function as usize].allowance;
+        self.taken -= row_of(self.functions.as_slice(), call.function).allowance;
         self.end = call.base;
         Some(link)
     }
@@ -145,6 +149,7 @@ impl Space {
         requires least { 2 ≤ index }
         requires most { index < top_words self.old }
         ensures memory { self.new ≡ record self.old { space = with_word self.old.space index w } }
+        ensures word { WritesWord (top_base self.old.space.calls + 8 * index) w self.old.space.memory self.new.space.memory }
         ensures links { KeepsLinks self.old.space self.new.space }
     {
         let base = top_base(self.calls.as_slice());
