@@ -14,3 +14,4 @@ pub mod Stepped
 pub mod Going
 pub mod Gone
 pub mod Finishing
+pub mod Launched

@@ -5,6 +5,7 @@ use Rattle.ob_model.specs.Entries.{with_entry}
 use Rattle.ob_model.specs.declared.settings.RunSettings.{RunSettings}
 use Rattle.ob_words.specs.Words.{block}
 use Rattle.ob_code.specs.declared.image.Image.{Image}
+use Rattle.ob_code.specs.declared.image.PointerRow.{PointerRow}
 use Rattle.ob_code.specs.declared.image.StaticRow.{StaticRow}
 use Rattle.ob_code.specs.declared.instructions.Instr.TheVariants.{Tick}
 use Rattle.ob_code.specs.Machine as machine
@@ -45,8 +46,16 @@ statics_calls : (base object : ℕ) (rows : List StaticRow) (s : Space) → (wit
 statics_calls base object [] s = refl
 statics_calls base object (r ∷ rows) s = statics_calls (base + block r.size) (object + 1) rows _
 
-pub no_calls : (u : Setup) → (laid_out stack_bytes u.image.statics u.image.pointers u.settings).calls ≡ []
-no_calls u = statics_calls 4096 1 u.image.statics _
+pub no_calls : (statics : List StaticRow) (pointers : List PointerRow) (settings : RunSettings) → (laid_out stack_bytes statics pointers settings).calls ≡ []
+no_calls statics pointers settings = statics_calls 4096 1 statics _
+
+statics_next : (base object : ℕ) (rows : List StaticRow) (s : Space) → (with_statics base object rows s).next ≡ s.next
+statics_next base object [] s = refl
+statics_next base object (r ∷ rows) s = statics_next (base + block r.size) (object + 1) rows _
+
+-- its objects are numbered from 1
+pub first_next : (statics : List StaticRow) (pointers : List PointerRow) (settings : RunSettings) → (laid_out stack_bytes statics pointers settings).next ≡ length statics + 1
+first_next statics pointers settings = statics_next 4096 1 statics _
 
 leads_placed : (u : Setup) (n : ℕ) (s t : State) → IsVerified u.image → IsPlaced u.image s.space.calls s.at → Leads u n s t → IsPlaced u.image t.space.calls t.at
 leads_placed u zero s t v p l = subst (λ r. IsPlaced u.image r.space.calls r.at) (sym l) p
@@ -55,4 +64,4 @@ leads_placed u (suc n) s t v p l = leads_placed u n l.0 t v (step_placed u s l.0
 pub reaches_placed : (u : Setup) (place : ℕ) (input : List ℕ) (steps n : ℕ) (t : State) → IsVerified u.image → Reaches u (laid_out stack_bytes u.image.statics u.image.pointers u.settings) place input steps n t → IsPlaced u.image t.space.calls t.at
 reaches_placed u place input steps n t v r =
     let space = laid_out stack_bytes u.image.statics u.image.pointers u.settings in
-    leads_placed u n r.first t v (start_placed u.image (fresh space place input steps) r.first v (no_calls u) r.starts).placed r.leads
+    leads_placed u n r.first t v (start_placed u.image (fresh space place input steps) r.first v (no_calls u.image.statics u.image.pointers u.settings) r.starts).placed r.leads
