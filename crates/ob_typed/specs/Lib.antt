@@ -29,3 +29,4 @@ pub mod FaultExamples
 pub mod MoreFaultExamples
 pub mod SourceExamples
 pub mod TypedExamples
+pub mod WellTyped
