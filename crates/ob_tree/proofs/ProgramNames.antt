@@ -26,7 +26,7 @@ abbrev pub named : Declaration → ℕ → List ℕ → ℕ → Declarator
 named d n name a = record { declaration = d; stars = n; name = name; at = a }
 
 -- Functions are declared by external declarations alone.
-abbrev IsOuter : Owner → Type 0
+abbrev pub IsOuter : Owner → Type 0
 IsOuter (Outer items) = Unit {0}
 IsOuter (Inner f n items fs) = ⊥
 IsOuter (Start f n fs) = ⊥

@@ -1,0 +1,6 @@
+pub mod Most
+pub mod Shapes
+pub mod Adding
+pub mod Sound
+pub mod SoundDeclarations
+pub mod SoundStatements
