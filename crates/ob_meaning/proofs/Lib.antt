@@ -18,3 +18,5 @@ pub mod Modes
 pub mod WholeObjects
 pub mod WholeRuns
 pub mod CountedScalars
+pub mod TypedActs
+pub mod TypedAccesses
