@@ -20,3 +20,4 @@ pub mod WholeRuns
 pub mod CountedScalars
 pub mod TypedActs
 pub mod TypedAccesses
+pub mod TypedPointers
