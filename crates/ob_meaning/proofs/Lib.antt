@@ -21,3 +21,4 @@ pub mod CountedScalars
 pub mod TypedActs
 pub mod TypedAccesses
 pub mod TypedPointers
+pub mod TypedExpressions

@@ -62,6 +62,13 @@ bind_gives calls P Q (stop finish w) k h each = tt
 pub typed_bind : {A B : Type 0} (calls : List Call) (P : A → Type 0) (Q : B → Type 0) (f : World → Run A) (k : A → World → Run B) → Typed calls P f → ((a : A) → P a → Typed calls Q (k a)) → Typed calls Q (λ w. bind (f w) k)
 typed_bind calls P Q f k s each = record { each = λ w ok. bind_gives calls P Q (f w) k (s.each w ok) each }
 
+weaken_gives : {A : Type 0} (calls : List Call) (P Q : A → Type 0) (r : Run A) → ((a : A) → P a → Q a) → GivesIn calls P r → GivesIn calls Q r
+weaken_gives calls P Q (go a w) more h = (more a h.0, h.1)
+weaken_gives calls P Q (stop finish w) more h = tt
+
+pub typed_weaken : {A : Type 0} (calls : List Call) (P Q : A → Type 0) (f : World → Run A) → ((a : A) → P a → Q a) → Typed calls P f → Typed calls Q f
+typed_weaken calls P Q f more s = record { each = λ w ok. weaken_gives calls P Q (f w) more (s.each w ok) }
+
 step_gives : {A : Type 0} (calls : List Call) (P : A → Type 0) (n : ℕ) (f : World → Run A) (w : World) → Typed calls P f → IsTypedWorld calls w → GivesIn calls P (take_step n w f)
 step_gives calls P zero f w s ok = tt
 step_gives calls P (suc n) f w s ok = s.each (record w { left = n }) ok
