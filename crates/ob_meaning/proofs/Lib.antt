@@ -22,3 +22,4 @@ pub mod TypedActs
 pub mod TypedAccesses
 pub mod TypedPointers
 pub mod TypedExpressions
+pub mod TypedStatements
