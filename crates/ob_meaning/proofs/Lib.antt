@@ -18,3 +18,8 @@ pub mod Modes
 pub mod WholeObjects
 pub mod WholeRuns
 pub mod CountedScalars
+pub mod TypedActs
+pub mod TypedAccesses
+pub mod TypedPointers
+pub mod TypedExpressions
+pub mod TypedStatements

@@ -15,6 +15,7 @@ pub mod FirstDrop
 pub mod Depth
 pub mod MemoryLaws
 pub mod TypeLaws
+pub mod ValueTypes
 pub mod ExampleTrees
 pub mod Examples
 pub mod ExampleRuns
