@@ -35,7 +35,7 @@ ticked_none : (left : ℕ) (s : State) (k : State → Next) → left ≡ 0 → t
 ticked_none left s k none = ap (λ n. ticked n s k) none
 
 -- where no step is left
-pub no_step : (does : InputEnd → State → Next) (k : InputEnd → State → Next) (e : Execution) (d : Devices) → ((input_end : InputEnd) (s : State) → does input_end s ≡ ticked s.left s (k input_end)) → e.left ≡ 0 → KnowsEnd d.unread d.left → Advances does e e d d (Some Steps)
+pub no_step : (does : InputEnd → State → Next) (k : InputEnd → State → Next) (e : Execution) (d : Devices) → ((input_end : InputEnd) (s : State) → does input_end s ≡ ticked s.steps s (k input_end)) → e.steps ≡ 0 → KnowsEnd d.unread d.left → Advances does e e d d (Some Steps)
 no_step does k e d is none knows =
     record {
       read = [];
@@ -43,7 +43,7 @@ no_step does k e d is none knows =
       moves = still d knows;
       same = λ input_end more b can.
           is input_end (reading e (d.unread.bytes ++ more) b)
-          ∙ ticked_none e.left (reading e (d.unread.bytes ++ more) b) (k input_end) none
+          ∙ ticked_none e.steps (reading e (d.unread.bytes ++ more) b) (k input_end) none
           ∙ ap (stops Steps) (nothing_written e (d.unread.bytes ++ more) b);
     }
 
@@ -81,7 +81,7 @@ byte_taken failed byte rest a t = refl
 
 -- the run with one step less
 abbrev pub stepped : Execution → Execution
-stepped e = record e { left = e.left - 1 }
+stepped e = record e { steps = e.steps - 1 }
 
 -- the next byte of the buffer
 abbrev pub Takes : Unread → Unread → Option ℕ → Type 0
@@ -96,7 +96,7 @@ taken_is u v None e a input_end more b takes ended can =
 taken_is u v (Some byte) e a input_end more b takes ended can =
     ap (λ xs. get_char input_end (xs ++ more) a (reading e (xs ++ more) b)) takes.1 ∙ byte_taken input_end byte (v.bytes ++ more) a (reading e (byte ∷ (v.bytes ++ more)) b)
 
-pub got_char : (does : InputEnd → State → Next) (e f : Execution) (d d' : Devices) (v : Unread) (byte : Option ℕ) (a w : ℕ) → ((input_end : InputEnd) (s : State) → does input_end s ≡ ticked s.left s (λ t. get_char input_end t.input a t)) → (e.left ≡ 0 → ⊥) → HasNext d d' → Takes d'.unread v byte → w ≡ word_of_byte byte → ((b : Beside) → set_word (state_of (stepped e) b) a w ≡ goes (state_of f b)) → Advances does e f d (record d' { unread = v }) None
+pub got_char : (does : InputEnd → State → Next) (e f : Execution) (d d' : Devices) (v : Unread) (byte : Option ℕ) (a w : ℕ) → ((input_end : InputEnd) (s : State) → does input_end s ≡ ticked s.steps s (λ t. get_char input_end t.input a t)) → (e.steps ≡ 0 → ⊥) → HasNext d d' → Takes d'.unread v byte → w ≡ word_of_byte byte → ((b : Beside) → set_word (state_of (stepped e) b) a w ≡ goes (state_of f b)) → Advances does e f d (record d' { unread = v }) None
 got_char does e f d d' v byte a w is some next takes word set =
     record {
       read = next.read;
@@ -109,7 +109,7 @@ got_char does e f d d' v byte a w is some next takes word set =
     same input_end more b can =
         let input : d.unread.bytes ++ (next.read ++ more) ≡ d'.unread.bytes ++ more = sym (append_assoc d.unread.bytes next.read more) ∙ ap (λ xs. xs ++ more) next.joined in
         is input_end (reading e (d.unread.bytes ++ (next.read ++ more)) b)
-        ∙ ticked_once e.left (reading e (d.unread.bytes ++ (next.read ++ more)) b) (λ t. get_char input_end t.input a t) some
+        ∙ ticked_once e.steps (reading e (d.unread.bytes ++ (next.read ++ more)) b) (λ t. get_char input_end t.input a t) some
         ∙ ap (λ xs. get_char input_end xs a (reading (stepped e) xs b)) input
         ∙ taken_is d'.unread v byte (stepped e) a input_end more b takes next.ended can
         ∙ ap (set_word (reading (stepped e) (v.bytes ++ more) b) a) (sym word)
@@ -157,7 +157,7 @@ put_advances does e f d pending None knows puts =
     }
   where
     none : Beside
-    none = record { input = []; output = []; events = []; place = 0 }
+    none = record { input = []; output = []; events = []; cycle_place = 0 }
 
     byte_same : (x y : ℕ) → pending ≡ d.pending ++ x ∷ [] → pending ≡ d.pending ++ y ∷ [] → x ≡ y
     byte_same x y p q = let same : x ∷ [] ≡ y ∷ [] = append_cancel_left d.pending (x ∷ []) (y ∷ []) (sym p ∙ q) in cc
@@ -167,6 +167,6 @@ put_advances does e f d pending None knows puts =
         let p = puts input_end (record b { input = d.unread.bytes ++ more }) in
         p.2 ∙ ap (λ x. goes (state_of f (having_written (d.unread.bytes ++ more) (x ∷ []) b))) (byte_same p.0 (puts closed none).0 p.1 (puts closed none).1)
 put_advances does e f d pending (Some ending) knows puts =
-    let p = puts closed (record { input = []; output = []; events = []; place = 0 }) in
+    let p = puts closed (record { input = []; output = []; events = []; cycle_place = 0 }) in
     subst (λ xs. Advances does e f d (record d { pending = xs }) (Some ending)) (sym p.0)
     (done_advances does e f d (Some ending) knows (λ input_end b. (puts input_end b).1))

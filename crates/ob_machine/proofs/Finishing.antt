@@ -67,7 +67,7 @@ module _ (run : InputEnd → State → Final) (e f : Execution) (place : ℕ) (d
           ending = ap (λ x. x.ending) (sym final);
           output = subst (λ x. IsWritten w x.state.output) (sym final) (all_sent d.taken d'.taken taken d.tally d'.tally tally d.write_faults faults d'.pending (d.pending ++ a.written) a.written (written_all a.written) a.moves.sent took tallied (quiet ∙ a.moves.write_quiet));
           space = ap (λ x. x.state.space) (sym final);
-          count = ap (λ x. x.state.count) (sym final);
+          instructions = ap (λ x. x.state.instructions) (sym final);
         });
       }
 
@@ -84,7 +84,7 @@ module _ (run : InputEnd → State → Final) (e f : Execution) (place : ℕ) (d
             took = subst (λ x. TakesPrefix d.taken taken d.tally tally x.state.output) (sym final) (subst (λ bytes. TakesPrefix d.taken taken d.tally tally bytes) (written_all a.written) (flush_prefix d.taken d'.taken taken d.tally d'.tally tally d'.pending (d.pending ++ a.written) a.moves.sent took));
             cause = subst (λ k. Rose k faults) a.moves.write_quiet cause;
           };
-          count = let same = ap (λ x. x.state.count) final in omega (arith, same);
+          instructions = let same = ap (λ x. x.state.instructions) final in omega (arith, same);
         });
       }
 
@@ -101,7 +101,7 @@ module _ (run : InputEnd → State → Final) (e f : Execution) (place : ℕ) (d
           ending = ap (λ x. x.ending) (sym final);
           output = subst (λ x. IsWritten w x.state.output) (sym final) (all_sent d.taken d'.taken d'.taken d.tally d'.tally d'.tally d.write_faults d'.write_faults [] (d.pending ++ a.written) a.written (written_all a.written) a.sent (sym (append_known-nil d'.taken)) (sym (tally_known-nil d'.tally)) a.write_quiet);
           space = ap (λ x. x.state.space) (sym final);
-          count = ap (λ x. x.state.count) (sym final);
+          instructions = ap (λ x. x.state.instructions) (sym final);
         });
       }
 
@@ -127,6 +127,6 @@ module _ (run : InputEnd → State → Final) (e f : Execution) (place : ℕ) (d
             took = begun_prefix d'.taken d'.tally a.written _ (subst (λ x. Begins a.written x.state.output) start (a.begins closed (rest_of d'.left) b can)) (subst (λ bytes. TakesPrefix d.taken d'.taken d.tally d'.tally bytes) (written_all a.written) a.took);
             cause = a.cause;
           };
-          count = subst (λ x. f.count ≤ x.state.count) start (a.count closed (rest_of d'.left) b can);
+          instructions = subst (λ x. f.instructions ≤ x.state.instructions) start (a.instructions closed (rest_of d'.left) b can);
         });
       }

@@ -125,7 +125,7 @@ module _ (image : Image) (settings : RunSettings) (cycle : List ℕ) where
       not_ended b ended = absurd (cc (a.more, ended))
 
   -- the sink failed at what was pending
-  pub going_write : (limit n : ℕ) (e f h : Execution) (d d' d'' : Devices) → Going limit n e f d d' → TakesPrefix d'.taken d''.taken d'.tally d''.tally d'.pending → Rose d'.write_faults d''.write_faults → d''.left ≡ d'.left → d''.read_faults ≡ d'.read_faults → ((input_end : InputEnd) (s : State) → s.count ≡ f.count → h.count ≤ (run n input_end s).state.count) → RunFailsToWrite (run limit) e h d d''
+  pub going_write : (limit n : ℕ) (e f h : Execution) (d d' d'' : Devices) → Going limit n e f d d' → TakesPrefix d'.taken d''.taken d'.tally d''.tally d'.pending → Rose d'.write_faults d''.write_faults → d''.left ≡ d'.left → d''.read_faults ≡ d'.read_faults → ((input_end : InputEnd) (s : State) → s.instructions ≡ f.instructions → h.instructions ≤ (run n input_end s).state.instructions) → RunFailsToWrite (run limit) e h d d''
   going_write limit n e f h d d' d'' g took cause left quiet count =
       record {
         read = g.read;
@@ -139,16 +139,16 @@ module _ (image : Image) (settings : RunSettings) (cycle : List ℕ) where
         begins = λ input_end more b can.
             subst (λ x. Begins (b.output ++ g.written) x.state.output) (sym (g.same input_end more b can))
             (runs_follow (setup image settings cycle input_end) n (state_of f (having_written (d'.unread.bytes ++ more) g.written b))).output;
-        count = λ input_end more b can.
-            subst (λ x. h.count ≤ x.state.count) (sym (g.same input_end more b can))
+        instructions = λ input_end more b can.
+            subst (λ x. h.instructions ≤ x.state.instructions) (sym (g.same input_end more b can))
             (count input_end (state_of f (having_written (d'.unread.bytes ++ more) g.written b)) refl);
       }
 
-  pub counts_one : (n : ℕ) (f h : Execution) → h.count ≡ f.count + 1 → (input_end : InputEnd) (s : State) → s.count ≡ f.count → h.count ≤ (run (suc n) input_end s).state.count
+  pub counts_one : (n : ℕ) (f h : Execution) → h.instructions ≡ f.instructions + 1 → (input_end : InputEnd) (s : State) → s.instructions ≡ f.instructions → h.instructions ≤ (run (suc n) input_end s).state.instructions
   counts_one n f h is input_end s same = omega (arith, runs_count (setup image settings cycle input_end) n s)
 
-  pub counts_none : (n : ℕ) (f : Execution) → (input_end : InputEnd) (s : State) → s.count ≡ f.count → f.count ≤ (run n input_end s).state.count
-  counts_none n f input_end s same = omega (arith, (runs_follow (setup image settings cycle input_end) n s).count)
+  pub counts_none : (n : ℕ) (f : Execution) → (input_end : InputEnd) (s : State) → s.instructions ≡ f.instructions → f.instructions ≤ (run n input_end s).state.instructions
+  counts_none n f input_end s same = omega (arith, (runs_follow (setup image settings cycle input_end) n s).instructions)
 
   -- what was pending was sent
   pub going_sent : (limit n : ℕ) (e f : Execution) (d d' : Devices) (taken : Option (List ℕ)) (tally : Option Tally) (faults : ℕ) → Going limit n e f d d' → taken ≡ append_known d'.taken d'.pending → tally ≡ tally_known d'.tally d'.pending → faults ≡ d'.write_faults → Going limit n e f d (record d' { pending = []; taken = taken; tally = tally; write_faults = faults })
@@ -179,7 +179,7 @@ pub any_settings : RunSettings
 any_settings = record { mode = Oblivious; store = 1; away = 0; heap = 0 }
 
 pub none_beside : Beside
-none_beside = record { input = []; output = []; events = []; place = 0 }
+none_beside = record { input = []; output = []; events = []; cycle_place = 0 }
 
 -- the state that an instruction goes on to
 stepped_to : (image : Image) (f h : Execution) (d' d'' : Devices) (a : Advances (does image any_settings []) (begun f) h d' d'' None) → step (setup image any_settings [] closed) (reading f (d'.unread.bytes ++ (a.read ++ [])) none_beside) ≡ goes (state_of h (having_written (d''.unread.bytes ++ []) a.written none_beside))
@@ -190,7 +190,7 @@ ready_on image f h d' d'' v ready a rows =
     let stays = step_placed (setup image any_settings [] closed) (reading f (d'.unread.bytes ++ (a.read ++ [])) none_beside) (state_of h (having_written (d''.unread.bytes ++ []) a.written none_beside)) v ready.placed (stepped_to image f h d' d'' a) in
     record { rows = rows.functions ∙ ready.rows; placed = stays.placed; numbered = omega (arith, stays.numbered, ready.numbered) }
 
-pub counted_on : (image : Image) (f h : Execution) (d' d'' : Devices) → Advances (does image any_settings []) (begun f) h d' d'' None → h.count ≡ f.count + 1
+pub counted_on : (image : Image) (f h : Execution) (d' d'' : Devices) → Advances (does image any_settings []) (begun f) h d' d'' None → h.instructions ≡ f.instructions + 1
 counted_on image f h d' d'' a =
     let s = reading f (d'.unread.bytes ++ (a.read ++ [])) none_beside in
-    (subst (tells.Tells closed (counted s)) (stepped_to image f h d' d'' a) (tells.act_on (setup image any_settings [] closed) (slice_get image.code f.at) (counted s))).count
+    (subst (tells.Tells closed (counted s)) (stepped_to image f h d' d'' a) (tells.act_on (setup image any_settings [] closed) (slice_get image.code f.counter) (counted s))).instructions

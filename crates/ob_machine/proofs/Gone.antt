@@ -40,7 +40,7 @@ module _ (image : Image) (settings : RunSettings) (cycle : List ℕ) where
   turn_fault limit m e f h d d' d'' Read some g a = going_read image settings cycle limit (m - 1) e f h d d' d'' (earlier limit m e f d d' some g) a
   turn_fault limit m e f h d d' d'' Write some g a =
       going_write image settings cycle limit (suc (m - 1)) e f h d d' d'' (earlier limit m e f d d' some g) a.refill.took a.refill.cause a.refill.left a.refill.read_quiet
-      (counts_one image settings cycle (m - 1) f h a.count)
+      (counts_one image settings cycle (m - 1) f h a.instructions)
 
   pub turn_cut : (limit m : ℕ) (e f : Execution) (d d' d'' : Devices) → Going image settings cycle limit m e f d d' → TakesPrefix d'.taken d''.taken d'.tally d''.tally d'.pending → Rose d'.write_faults d''.write_faults → d''.left ≡ d'.left → d''.read_faults ≡ d'.read_faults → RunFailsToWrite (run_of image settings cycle limit) e f d d''
   turn_cut limit m e f d d' d'' g took cause left quiet =
@@ -93,10 +93,10 @@ module _ (image : Image) (settings : RunSettings) (cycle : List ℕ) where
         last = a.last;
         knows_end = a.knows_end;
         begins = λ input_end more b can. subst (λ x. Begins (b.output ++ a.written) x.state.output) (sym (begins input_end (d.unread.bytes ++ (a.read ++ more)) b)) (a.begins input_end more b can);
-        count = λ input_end more b can. subst (λ x. h.count ≤ x.state.count) (sym (begins input_end (d.unread.bytes ++ (a.read ++ more)) b)) (a.count input_end more b can);
+        instructions = λ input_end more b can. subst (λ x. h.instructions ≤ x.state.instructions) (sym (begins input_end (d.unread.bytes ++ (a.read ++ more)) b)) (a.instructions input_end more b can);
       }
 
-pub ready_start : (image : Image) (e f : Execution) (answer : Option Ending) → IsVerified image → e.space.functions ≡ image.functions → e.space.space.calls ≡ [] → e.space.space.next + 524288 * e.left < 2 ^ 62 → SameRows e.space f.space → ((r : Beside) → Is answer (started image (state_of e r)) f r) → IfNone answer (IsReady image f)
+pub ready_start : (image : Image) (e f : Execution) (answer : Option Ending) → IsVerified image → e.space.functions ≡ image.functions → e.space.space.calls ≡ [] → e.space.space.next + 524288 * e.steps < 2 ^ 62 → SameRows e.space f.space → ((r : Beside) → Is answer (started image (state_of e r)) f r) → IfNone answer (IsReady image f)
 ready_start image e f None v rows none numbered same starts =
     let stays = start_placed image (state_of e none_beside) (state_of f none_beside) v none (starts none_beside) in
     record { rows = same.functions ∙ rows; placed = stays.placed; numbered = omega (arith, stays.numbered, numbered) }

@@ -5,9 +5,9 @@ use Rattle.ob_code.specs.Machine.{ticked}
 use Rattle.ob_code.specs.State.{Next, Space, State}
 
 -- a step is taken
-pub ticked_once : (left : ℕ) (s : State) (k : State → Next) → (left ≡ 0 → ⊥) → ticked left s k ≡ k (record s { left = left - 1 })
+pub ticked_once : (left : ℕ) (s : State) (k : State → Next) → (left ≡ 0 → ⊥) → ticked left s k ≡ k (record s { steps = left - 1 })
 ticked_once zero s k some = absurd (some refl)
-ticked_once (suc n) s k some = let e : n ≡ suc n - 1 = omega arith in ap (λ m. k (record s { left = m })) e
+ticked_once (suc n) s k some = let e : n ≡ suc n - 1 = omega arith in ap (λ m. k (record s { steps = m })) e
 
 -- one more word
 pub words_from_more : (s : Space) (i n : ℕ) → words_from s i (n + 1) ≡ words_from s i n ++ frame_word s (i + n) ∷ []

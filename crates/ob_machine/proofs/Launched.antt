@@ -33,11 +33,11 @@ unused_numbered image e p steps v u few =
 
 -- the execution, for so many steps
 abbrev pub given : Execution → ℕ → Execution
-given e steps = record e { left = steps }
+given e steps = record e { steps = steps }
 
 starts_so : (image : Image) (e : Execution) (p : Ports) (steps place : ℕ) (input : List ℕ) → IsUnused image e p → state_of (given e steps) (at_start input place) ≡ start.fresh (laid_out stack_bytes image.statics image.pointers e.space.settings) place input steps
 starts_so image e p steps place input u =
-    λ i. record { space = (u.space i).space; at = u.at i; left = steps; input = input; output = []; events = []; place = place; count = u.count i }
+    λ i. record { space = (u.space i).space; counter = u.counter i; steps = steps; input = input; output = []; events = []; cycle_place = place; instructions = u.instructions i }
 
 -- the run of an execution
 abbrev pub run_of : Image → RunSettings → List ℕ → ℕ → InputEnd → State → Final
@@ -49,24 +49,24 @@ final_is image e p steps limit place cycle input input_end u is =
 
 -- the machine with an execution
 abbrev pub machine_of : Image → Execution → Bool → MachineState
-machine_of image e fresh = record { image = image; settings = e.space.settings; space = e.space.space; is_fresh = fresh; instructions = e.count }
+machine_of image e fresh = record { image = image; settings = e.space.settings; space = e.space.space; is_fresh = fresh; instructions = e.instructions }
 
 abbrev pub machine_after : Image → Execution → MachineState
-machine_after image f = record { image = image; settings = f.space.settings; space = f.space.space; is_fresh = false; instructions = f.count }
+machine_after image f = record { image = image; settings = f.space.settings; space = f.space.space; is_fresh = false; instructions = f.instructions }
 
 came_to : (image : Image) (e f : Execution) (fresh : Bool) (final : Final) (w : Writing) (answer : Ending) → f.space.settings ≡ e.space.settings → Ended final f w answer ⊎ Broken final f w answer → ComesTo final (machine_of image e fresh) (machine_after image f) answer w
 came_to image e f fresh final w answer same (inl h) =
     inl (record {
       ending = h.ending;
       output = h.output;
-      machine = λ i. record { image = image; settings = same i; space = h.space i; is_fresh = false; instructions = h.count i };
+      machine = λ i. record { image = image; settings = same i; space = h.space i; is_fresh = false; instructions = h.instructions i };
     })
 came_to image e f fresh final w answer same (inr h) =
     inr (record {
       ending = h.ending;
       output = h.output;
-      machine = λ i. record { image = image; settings = same i; space = f.space.space; is_fresh = false; instructions = f.count };
-      instructions = h.count;
+      machine = λ i. record { image = image; settings = same i; space = f.space.space; is_fresh = false; instructions = f.instructions };
+      instructions = h.instructions;
     })
 
 pub runs_on : (image : Image) (e f : Execution) (p : Ports) (fresh : Bool) (cycle : List ℕ) (place steps limit : ℕ) (answer : Ending) (r : Reading) (w : Writing) → IsUnused image e p → limit ≡ most_instructions image steps → SameRows e.space f.space → ComesOut (run_of image e.space.settings cycle limit) (given e steps) f r w place answer → RunsOn (machine_of image e fresh) (machine_after image f) cycle place steps answer r w
@@ -117,6 +117,6 @@ module _ (m after' : MachineState) (cycle : List ℕ) (place steps : ℕ) (answe
   pub within_bound : after'.instructions ≤ most_instructions m.image steps
   within_bound = by_coming h.comes_to (bounded (record { image = m.image; settings = m.settings; cycle = cycle; input_end = h.input_end }) (laid_out stack_bytes m.image.statics m.image.pointers m.settings) place h.input steps)
     where
-      by_coming : ComesTo final m after' answer w → final.state.count ≤ most_instructions m.image steps → after'.instructions ≤ most_instructions m.image steps
+      by_coming : ComesTo final m after' answer w → final.state.instructions ≤ most_instructions m.image steps → after'.instructions ≤ most_instructions m.image steps
       by_coming (inl d) le = let same = ap (λ x. x.instructions) d.machine in omega (arith, same, le)
       by_coming (inr b) le = omega (arith, b.instructions, le)

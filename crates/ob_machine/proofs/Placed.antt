@@ -1,7 +1,6 @@
 -- On a verified image the next instruction stays one of the innermost call's function, and calls return into their callers.
 use Rattle.std.proofs.Common.{◌≡◌, ℕ, zero, suc, ◌+◌, ◌-◌, ◌*◌, ◌%◌, ◌≤◌, ◌<◌, Bool, true, false, cond, ℤ, pos, negsuc, ◌+ℤ◌, ◌*ℤ◌, unsigned_abs, slice_get, List, [], ◌∷◌, length, Option, Some, None, Result, Ok, Err, arith, refl, sym, subst, ap, inl, inr, ◌∙◌}
-use Rattle.std.specs.Prelude.{nat_lt, is_some}
-use Rattle.std.specs.List.{position, count_by}
+use Rattle.std.specs.Prelude.{nat_lt}
 use Rattle.std.proofs.lemmas.Bool.{cases_lt}
 use Rattle.std.proofs.lemmas.Option.{slice_get_within, get_or_from_slice_get}
 use Rattle.ob_words.specs.declared.types.DivideByZero.{DivideByZero}
@@ -13,18 +12,21 @@ use Rattle.ob_model.specs.declared.strays.Act.TheVariants as act
 use Rattle.ob_model.specs.declared.values.LoadKind.{LoadKind}
 use Rattle.ob_model.specs.declared.objects.Entry.{Entry}
 use Rattle.ob_model.specs.Accesses.{bytes_of_kind, is_far, is_inside}
+use Rattle.ob_model.specs.Descriptors.{Pair, pair_count, slot_of}
+use Rattle.ob_model.specs.Heap.{place_for}
+use Rattle.ob_model.specs.declared.strays.StrayEvent.{StrayEvent}
 use Rattle.ob_model.specs.Endings.{InputEnd, closed, failed}
 use Rattle.ob_code.specs.declared.image.Image.{Image}
 use Rattle.ob_code.specs.declared.instructions.Instr.{Instr}
 use Rattle.ob_code.specs.declared.instructions.Instr.TheVariants as instr
 use Rattle.ob_code.proofs.CodeRanges.{code_end_cases, entry_before_end}
-use Rattle.ob_code.specs.Allocation.{Freeing, no_effect, dies, stray, freeing, place_for, allocated_at}
-use Rattle.ob_code.specs.Courses.{Course, too_far, direct, own, outside, vanishing, course, read_outside, after_outside_load, stray_event}
+use Rattle.ob_code.specs.Accesses.{Access, too_far, direct, own, outside, vanishing, access, event_of, found_word, space_after_load, space_after_store}
+use Rattle.ob_code.specs.Allocation.{Freeing, no_effect, dies, stray, free_event, freeing, allocated_at, space_after_free}
 use Rattle.ob_code.specs.Frames.{entered, function_at, is_full, left_call, with_word, with_words, words_from}
 use Rattle.ob_code.specs.Machine as machine
 use Rattle.ob_code.specs.Pointers as pointers
 use Rattle.ob_code.specs.Rules.{AreOperandsSound, IsBelow, IsCodeOf, IsInstructionSound, IsLast, IsPlaceOf, code_end, IsVerified, instruction_at, words_of, IsWritten}
-use Rattle.ob_code.specs.State.{Away, Call, Setup, Space, State, Next, goes, stops}
+use Rattle.ob_code.specs.State.{Call, Setup, Space, State, Next, goes, stops}
 use Rattle.ob_machine.specs.Progress.{AreLinked, IsInnermost, IsLink, IsPlaced, IsReturnPlace}
 
 -- the instruction at a place of a function is sound there
@@ -61,11 +63,11 @@ jump_place image f (negsuc n) is place = absurd place
 
 -- the numbers of objects stay small while steps are left, since a call makes 524,288 at most
 abbrev pub numbers : State → ℕ
-numbers s = s.space.next + 524288 * s.left
+numbers s = s.space.next + 524288 * s.steps
 
 -- the next state is placed too
 pub record Stays (image : Image) (s t : State) : Type 0 where
-  pub placed : IsPlaced image t.space.calls t.at
+  pub placed : IsPlaced image t.space.calls t.counter
   pub numbered : numbers t ≤ numbers s
 
 abbrev pub Goes : Image → State → Next → Type 0
@@ -76,7 +78,7 @@ pub either : (image : Image) (s : State) (b : Bool) (x y : Next) → Goes image 
 either image s true x y p q = p
 either image s false x y p q = q
 
-pub ticked : (image : Image) (left : ℕ) (s : State) (k : State → Next) → s.left ≡ left → ((n : ℕ) → s.left ≡ suc n → Goes image s (k (record s { left = n }))) → Goes image s (machine.ticked left s k)
+pub ticked : (image : Image) (left : ℕ) (s : State) (k : State → Next) → s.steps ≡ left → ((n : ℕ) → s.steps ≡ suc n → Goes image s (k (record s { steps = n }))) → Goes image s (machine.ticked left s k)
 ticked image zero s k e f = tt
 ticked image (suc left) s k e f = f left e
 
@@ -102,16 +104,16 @@ entry_place : (image : Image) (f : ℕ) → IsVerified image → f < length imag
 entry_place image f v is = record { is_function = is; after_entry = omega arith; before_end = entry_before_end image f v.functions is }
 
 -- a call that is entered
-pub entering : (image : Image) (s : State) (f link : ℕ) (arguments : List ℕ) (t : State) → IsVerified image → f < length image.functions → AreLinked image t.space.calls → IsLink image t.space.calls link → t.space.next + 524288 * t.left + 524288 ≤ numbers s → Goes image s (machine.entering image f link arguments t)
+pub entering : (image : Image) (s : State) (f link : ℕ) (arguments : List ℕ) (t : State) → IsVerified image → f < length image.functions → AreLinked image t.space.calls → IsLink image t.space.calls link → t.space.next + 524288 * t.steps + 524288 ≤ numbers s → Goes image s (machine.entering image f link arguments t)
 entering image s f link arguments t v is linked returns room =
     either image s (is_full image.functions f t.space.calls) (stops ending.Stack t) (goes u) tt
-    (record { placed = subst (λ cs. IsPlaced image cs u.at) (sym (with_words_calls inner 2 arguments)) there; numbered = omega (arith, with_words_next inner 2 arguments, (v.functions.rows.each f is).frame.vars) })
+    (record { placed = subst (λ cs. IsPlaced image cs u.counter) (sym (with_words_calls inner 2 arguments)) there; numbered = omega (arith, with_words_next inner 2 arguments, (v.functions.rows.each f is).frame.vars) })
   where
     inner : Space
     inner = entered image.functions f link t.space
 
     u : State
-    u = record t { at = (function_at image.functions f).entry; space = with_words inner 2 arguments }
+    u = record t { counter = (function_at image.functions f).entry; space = with_words inner 2 arguments }
 
     there : IsPlaced image inner.calls (function_at image.functions f).entry
     there = record { innermost = entry_place image f v is; linked = (returns, linked) }
@@ -130,9 +132,9 @@ returned image [] w s linked = tt
 returned image (c ∷ cs) w s linked =
     landed image s c.link w cs (record s { space = left_call image.functions c cs s.space }) linked.1 linked.0 refl (omega arith)
 
-set_or_made : (image : Image) (s : State) (r : Option ℕ) (u : Setup) (kind : LoadKind) (a : ℕ) (t : State) → ((p w : ℕ) → Goes image s (machine.set_word (record t { place = p }) a w)) → Goes image s (machine.set_or_made r u kind a t)
+set_or_made : (image : Image) (s : State) (r : Option ℕ) (u : Setup) (kind : LoadKind) (a : ℕ) (t : State) → ((p w : ℕ) → Goes image s (machine.set_word (record t { cycle_place = p }) a w)) → Goes image s (machine.set_or_made r u kind a t)
 set_or_made image s None u kind a t f = f _ _
-set_or_made image s (Some w) u kind a t f = f t.place w
+set_or_made image s (Some w) u kind a t f = f t.cycle_place w
 
 allocated_calls : (place : Option ℕ) (n : ℕ) (s : Space) → (allocated_at place n s).calls ≡ s.calls
 allocated_calls None n s = refl
@@ -181,13 +183,13 @@ either_shifted : (s : Space) (b : Bool) (x y : pointers.Shifted) → KeepsCalls 
 either_shifted s true x y p q = p
 either_shifted s false x y p q = q
 
-slot_keeps : (slot : Option ℕ) (away : ℕ) (p : Away) (s : Space) → KeepsCalls s (pointers.slot_for slot away p s)
+slot_keeps : (slot : Option ℕ) (away : ℕ) (p : Pair) (s : Space) → KeepsCalls s (pointers.slot_for slot away p s)
 slot_keeps (Some k) away p s = (refl, refl)
-slot_keeps None away p s = either_shifted s (nat_lt (count_by is_some s.slots) away) _ pointers.no_slot (refl, refl) tt
+slot_keeps None away p s = either_shifted s (nat_lt (pair_count s.slots) away) _ pointers.no_slot (refl, refl) tt
 
 word_keeps : (b : Bool) (away : ℕ) (e : Entry) (offset : ℤ) (s : Space) → KeepsCalls s (pointers.pointer_word b away e offset s)
 word_keeps true away e offset s = (refl, refl)
-word_keeps false away e offset s = slot_keeps (position (pointers.holds_pair e.object offset) s.slots) away (record { object = e.object; offset = offset }) s
+word_keeps false away e offset s = slot_keeps (slot_of s.slots (e.object, offset)) away (e.object, offset) s
 
 moved_keeps : (away : ℕ) (t : pointers.Target) (d : ℤ) (s : Space) → KeepsCalls s (pointers.moved_by away t d s)
 moved_keeps away pointers.nothing d s = (refl, refl)
@@ -197,35 +199,67 @@ moved_keeps away (pointers.into e offset) d s =
 shift_keeps : (away : ℕ) (s : Space) (w : ℕ) (d : ℤ) → KeepsCalls s (pointers.shift away s w d)
 shift_keeps away s w d = either_shifted s (is_far d) pointers.too_far _ tt (moved_keeps away (pointers.resolve s w) d s)
 
-module _ (u : Setup) (v : IsVerified u.image) (s : State) (placed : IsPlaced u.image s.space.calls s.at) where
+-- checked accesses and frees change neither, and telling an event moves nothing
+told_counter : (e : Option StrayEvent) (s : State) → (machine.told e s).counter ≡ s.counter
+told_counter None s = refl
+told_counter (Some e) s = refl
+
+told_steps : (e : Option StrayEvent) (s : State) → (machine.told e s).steps ≡ s.steps
+told_steps None s = refl
+told_steps (Some e) s = refl
+
+abbrev SameCalls : Space → Space → Type 0
+SameCalls s t = (t.calls ≡ s.calls) × (t.next ≡ s.next)
+
+load_keeps : (x : Access) (s : Space) → SameCalls s (space_after_load x s)
+load_keeps too_far s = (refl, refl)
+load_keeps (direct address) s = (refl, refl)
+load_keeps (own object offset address) s = (refl, refl)
+load_keeps (outside object offset) s = (refl, refl)
+load_keeps (vanishing object offset) s = (refl, refl)
+
+store_keeps : (x : Access) (cap : ℕ) (kind : LoadKind) (w : ℕ) (s : Space) → SameCalls s (space_after_store x cap kind w s)
+store_keeps too_far cap kind w s = (refl, refl)
+store_keeps (direct address) cap kind w s = (refl, refl)
+store_keeps (own object offset address) cap kind w s = (refl, refl)
+store_keeps (outside object offset) cap kind w s = (refl, refl)
+store_keeps (vanishing object offset) cap kind w s = (refl, refl)
+
+free_keeps : (x : Freeing) (s : Space) → SameCalls s (space_after_free x s)
+free_keeps no_effect s = (refl, refl)
+free_keeps (dies e) s = (refl, refl)
+free_keeps (stray e offset) s = (refl, refl)
+
+module _ (u : Setup) (v : IsVerified u.image) (s : State) (placed : IsPlaced u.image s.space.calls s.counter) where
   -- on to the next place
-  goes_on : (i : Instr) → slice_get u.image.code s.at ≡ Some i → ¬ IsLast i → (t : State) → t.space.calls ≡ s.space.calls → t.at ≡ s.at + 1 → numbers t ≤ numbers s → Stays u.image s t
+  goes_on : (i : Instr) → slice_get u.image.code s.counter ≡ Some i → ¬ IsLast i → (t : State) → t.space.calls ≡ s.space.calls → t.counter ≡ s.counter + 1 → numbers t ≤ numbers s → Stays u.image s t
   goes_on i is on t calls at room =
-      let there : IsPlaced u.image s.space.calls (s.at + 1) = record { innermost = on_place u.image s.space.calls s.at i v placed.innermost is on; linked = placed.linked } in
-      record { placed = subst (λ cs. IsPlaced u.image cs t.at) (sym calls) (subst (λ p. IsPlaced u.image s.space.calls p) (sym at) there); numbered = room }
+      let there : IsPlaced u.image s.space.calls (s.counter + 1) = record { innermost = on_place u.image s.space.calls s.counter i v placed.innermost is on; linked = placed.linked } in
+      record { placed = subst (λ cs. IsPlaced u.image cs t.counter) (sym calls) (subst (λ p. IsPlaced u.image s.space.calls p) (sym at) there); numbered = room }
 
-  goes_to : (imm : ℤ) → ((f : ℕ) → IsCodeOf u.image f s.at → IsPlaceOf u.image f imm) → Stays u.image s (machine.jump (unsigned_abs imm) s)
+  goes_to : (imm : ℤ) → ((f : ℕ) → IsCodeOf u.image f s.counter → IsPlaceOf u.image f imm) → Stays u.image s (machine.jump (unsigned_abs imm) s)
   goes_to imm place =
-      record { placed = record { innermost = target_place u.image s.space.calls s.at imm placed.innermost place; linked = placed.linked }; numbered = omega arith }
+      record { placed = record { innermost = target_place u.image s.space.calls s.counter imm placed.innermost place; linked = placed.linked }; numbered = omega arith }
 
-  load : (i : Instr) → slice_get u.image.code s.at ≡ Some i → ¬ IsLast i → (x : Course) (kind : LoadKind) (line a : ℕ) → Goes u.image s (machine.load x u kind line a s)
+  loaded : (i : Instr) → slice_get u.image.code s.counter ≡ Some i → ¬ IsLast i → (x : Access) (kind : LoadKind) (line a : ℕ) → Goes u.image s (machine.loaded x u kind line a s)
+  loaded i is on x kind line a =
+      let e = event_of x line act.Load (bytes_of_kind kind) in
+      let keeps = load_keeps x s.space in
+      set_or_made u.image s (found_word x kind s.space) u kind a (record (machine.told e s) { space = space_after_load x s.space })
+      (λ p w. goes_on i is on _ keeps.0 (ap (λ k. k + 1) (told_counter e s)) (omega (arith, keeps.1, told_steps e s)))
+
+  load : (i : Instr) → slice_get u.image.code s.counter ≡ Some i → ¬ IsLast i → (x : Access) (kind : LoadKind) (line a : ℕ) → Goes u.image s (machine.load x u kind line a s)
   load i is on too_far kind line a = tt
-  load i is on (direct address) kind line a = goes_on i is on _ refl refl (omega arith)
-  load i is on (own object offset address) kind line a = goes_on i is on _ refl refl (omega arith)
-  load i is on (outside object offset) kind line a =
-      set_or_made u.image s (read_outside kind object offset s.space) u kind a
-      (record (machine.told (stray_event line act.Load object offset (bytes_of_kind kind)) s) { space = after_outside_load object offset s.space })
-      (λ p w. goes_on i is on _ refl refl (omega arith))
-  load i is on (vanishing object offset) kind line a = goes_on i is on _ refl refl (omega arith)
+  load i is on x kind line a = loaded i is on x kind line a
 
-  store : (i : Instr) → slice_get u.image.code s.at ≡ Some i → ¬ IsLast i → (x : Course) (kind : LoadKind) (line w : ℕ) → Goes u.image s (machine.store x u kind line w s)
+  store : (i : Instr) → slice_get u.image.code s.counter ≡ Some i → ¬ IsLast i → (x : Access) (kind : LoadKind) (line w : ℕ) → Goes u.image s (machine.store x u kind line w s)
   store i is on too_far kind line w = tt
-  store i is on (direct address) kind line w = goes_on i is on _ refl refl (omega arith)
-  store i is on (own object offset address) kind line w = goes_on i is on _ refl refl (omega arith)
-  store i is on (outside object offset) kind line w = goes_on i is on _ refl refl (omega arith)
-  store i is on (vanishing object offset) kind line w = goes_on i is on _ refl refl (omega arith)
+  store i is on x kind line w =
+      let e = event_of x line act.Store (bytes_of_kind kind) in
+      let keeps = store_keeps x u.settings.store kind w s.space in
+      goes_on i is on _ keeps.0 (ap (λ k. k + 1) (told_counter e s)) (omega (arith, keeps.1, told_steps e s))
 
-  set_shifted : (i : Instr) → slice_get u.image.code s.at ≡ Some i → ¬ IsLast i → (away : ℕ) (w : ℕ) (d : ℤ) (a : ℕ) → Goes u.image s (machine.set_shifted (pointers.shift away s.space w d) a s)
+  set_shifted : (i : Instr) → slice_get u.image.code s.counter ≡ Some i → ¬ IsLast i → (away : ℕ) (w : ℕ) (d : ℤ) (a : ℕ) → Goes u.image s (machine.set_shifted (pointers.shift away s.space w d) a s)
   set_shifted i is on away w d a = by_answer (pointers.shift away s.space w d) (shift_keeps away s.space w d)
     where
       by_answer : (x : pointers.Shifted) → KeepsCalls s.space x → Goes u.image s (machine.set_shifted x a s)
@@ -233,38 +267,40 @@ module _ (u : Setup) (v : IsVerified u.image) (s : State) (placed : IsPlaced u.i
       by_answer pointers.too_far keeps = tt
       by_answer pointers.no_slot keeps = tt
 
-  get_char : (i : Instr) → slice_get u.image.code s.at ≡ Some i → ¬ IsLast i → (n : ℕ) → s.left ≡ suc n → (end : InputEnd) (input : List ℕ) (a : ℕ) → Goes u.image s (machine.get_char end input a (record s { left = n }))
+  get_char : (i : Instr) → slice_get u.image.code s.counter ≡ Some i → ¬ IsLast i → (n : ℕ) → s.steps ≡ suc n → (end : InputEnd) (input : List ℕ) (a : ℕ) → Goes u.image s (machine.get_char end input a (record s { steps = n }))
   get_char i is on n e closed [] a = goes_on i is on _ refl refl (omega arith)
   get_char i is on n e failed [] a = tt
   get_char i is on n e closed (byte ∷ rest) a = goes_on i is on _ refl refl (omega arith)
   get_char i is on n e failed (byte ∷ rest) a = goes_on i is on _ refl refl (omega arith)
 
-  allocate : (i : Instr) → slice_get u.image.code s.at ≡ Some i → ¬ IsLast i → (n : ℕ) → s.left ≡ suc n → (place : Option ℕ) (size a : ℕ) → Goes u.image s (machine.allocate place size a (record s { left = n }))
+  allocate : (i : Instr) → slice_get u.image.code s.counter ≡ Some i → ¬ IsLast i → (n : ℕ) → s.steps ≡ suc n → (place : Option ℕ) (size a : ℕ) → Goes u.image s (machine.allocate place size a (record s { steps = n }))
   allocate i is on n e place size a =
       goes_on i is on _ (allocated_calls place size s.space) refl (omega (arith, allocated_next place size s.space))
 
-  free : (i : Instr) → slice_get u.image.code s.at ≡ Some i → ¬ IsLast i → (n : ℕ) → s.left ≡ suc n → (x : Freeing) (line : ℕ) → Goes u.image s (machine.free x line (record s { left = n }))
-  free i is on n e no_effect line = goes_on i is on _ refl refl (omega arith)
-  free i is on n e (dies entry) line = goes_on i is on _ refl refl (omega arith)
-  free i is on n e (stray entry offset) line = goes_on i is on _ refl refl (omega arith)
+  free : (i : Instr) → slice_get u.image.code s.counter ≡ Some i → ¬ IsLast i → (n : ℕ) → s.steps ≡ suc n → (x : Freeing) (line : ℕ) → Goes u.image s (machine.free x line (record s { steps = n }))
+  free i is on n e x line =
+      let keeps = free_keeps x s.space in
+      let event = free_event x line in
+      let t : State = record s { steps = n } in
+      goes_on i is on _ keeps.0 (ap (λ k. k + 1) (told_counter event t)) (omega (arith, keeps.1, told_steps event t))
 
-  slide : (i : Instr) → slice_get u.image.code s.at ≡ Some i → ¬ IsLast i → (d : ℤ) (a : ℕ) → Goes u.image s (machine.slide d a s)
+  slide : (i : Instr) → slice_get u.image.code s.counter ≡ Some i → ¬ IsLast i → (d : ℤ) (a : ℕ) → Goes u.image s (machine.slide d a s)
   slide i is on d a = either u.image s (is_far d) (stops ending.Far s) (machine.set_word s a (word d)) tt (goes_on i is on _ refl refl (omega arith))
 
-  jump_zero : (imm : ℤ) (w : ℕ) → ((f : ℕ) → IsCodeOf u.image f s.at → IsPlaceOf u.image f imm) → Stays u.image s (machine.on s) → Goes u.image s (machine.at_zero w (goes (machine.jump (unsigned_abs imm) s)) (goes (machine.on s)))
+  jump_zero : (imm : ℤ) (w : ℕ) → ((f : ℕ) → IsCodeOf u.image f s.counter → IsPlaceOf u.image f imm) → Stays u.image s (machine.on s) → Goes u.image s (machine.at_zero w (goes (machine.jump (unsigned_abs imm) s)) (goes (machine.on s)))
   jump_zero imm w place on = at_zero u.image s w _ _ (goes_to imm place) on
 
-  jump_nonzero : (imm : ℤ) (w : ℕ) → ((f : ℕ) → IsCodeOf u.image f s.at → IsPlaceOf u.image f imm) → Stays u.image s (machine.on s) → Goes u.image s (machine.at_zero w (goes (machine.on s)) (goes (machine.jump (unsigned_abs imm) s)))
+  jump_nonzero : (imm : ℤ) (w : ℕ) → ((f : ℕ) → IsCodeOf u.image f s.counter → IsPlaceOf u.image f imm) → Stays u.image s (machine.on s) → Goes u.image s (machine.at_zero w (goes (machine.on s)) (goes (machine.jump (unsigned_abs imm) s)))
   jump_nonzero imm w place on = at_zero u.image s w _ _ on (goes_to imm place)
 
-  call : (a b : ℕ) (imm : ℤ) → slice_get u.image.code s.at ≡ Some (instr.Call a b imm) → (n : ℕ) → s.left ≡ suc n → Goes u.image s (machine.calling u.image (unsigned_abs imm) b (record s { left = n }))
+  call : (a b : ℕ) (imm : ℤ) → slice_get u.image.code s.counter ≡ Some (instr.Call a b imm) → (n : ℕ) → s.steps ≡ suc n → Goes u.image s (machine.calling u.image (unsigned_abs imm) b (record s { steps = n }))
   call a b imm is n e =
-      let t : State = record s { left = n } in
-      let l = call_link u.image s.space.calls s.at a b imm v placed.innermost is in
-      entering u.image s (unsigned_abs imm) (t.at + 1) (words_from t.space b (function_at u.image.functions (unsigned_abs imm)).params) t v l.0 placed.linked l.1 (omega arith)
+      let t : State = record s { steps = n } in
+      let l = call_link u.image s.space.calls s.counter a b imm v placed.innermost is in
+      entering u.image s (unsigned_abs imm) (t.counter + 1) (words_from t.space b (function_at u.image.functions (unsigned_abs imm)).params) t v l.0 placed.linked l.1 (omega arith)
 
-  pub act_on : (i : Instr) → slice_get u.image.code s.at ≡ Some i → Goes u.image s (machine.act_on u (Some i) s)
-  act_on instr.Tick is = ticked u.image s.left s (λ t. goes (machine.on t)) refl (λ n e. goes_on instr.Tick is (λ x. x) _ refl refl (omega arith))
+  pub act_on : (i : Instr) → slice_get u.image.code s.counter ≡ Some i → Goes u.image s (machine.act_on u (Some i) s)
+  act_on instr.Tick is = ticked u.image s.steps s (λ t. goes (machine.on t)) refl (λ n e. goes_on instr.Tick is (λ x. x) _ refl refl (omega arith))
   act_on (instr.Set a imm) is = goes_on (instr.Set a imm) is (λ x. x) _ refl refl (omega arith)
   act_on (instr.Move a b) is = goes_on (instr.Move a b) is (λ x. x) _ refl refl (omega arith)
   act_on (instr.Convert kind a b) is = goes_on (instr.Convert kind a b) is (λ x. x) _ refl refl (omega arith)
@@ -272,22 +308,22 @@ module _ (u : Setup) (v : IsVerified u.image) (s : State) (placed : IsPlaced u.i
       set_result u.image (binary operator kind (machine.get_number kind s b) (machine.right_number operator kind s c)) a s
       (λ w. goes_on (instr.Binary kind operator a b c) is (λ x. x) _ refl refl (omega arith))
   act_on (instr.Compare kind relation a b c) is = goes_on (instr.Compare kind relation a b c) is (λ x. x) _ refl refl (omega arith)
-  act_on (instr.Jump imm) is = goes_to imm (λ f here. (sound_there u.image f s.at (instr.Jump imm) v here is).0)
+  act_on (instr.Jump imm) is = goes_to imm (λ f here. (sound_there u.image f s.counter (instr.Jump imm) v here is).0)
   act_on (instr.JumpZero b imm) is =
-      jump_zero imm (machine.get s b) (λ f here. (sound_there u.image f s.at (instr.JumpZero b imm) v here is).0.1)
+      jump_zero imm (machine.get s b) (λ f here. (sound_there u.image f s.counter (instr.JumpZero b imm) v here is).0.1)
       (goes_on (instr.JumpZero b imm) is (λ x. x) _ refl refl (omega arith))
   act_on (instr.JumpNonzero b imm) is =
-      jump_nonzero imm (machine.get s b) (λ f here. (sound_there u.image f s.at (instr.JumpNonzero b imm) v here is).0.1)
+      jump_nonzero imm (machine.get s b) (λ f here. (sound_there u.image f s.counter (instr.JumpNonzero b imm) v here is).0.1)
       (goes_on (instr.JumpNonzero b imm) is (λ x. x) _ refl refl (omega arith))
-  act_on (instr.Call a b imm) is = ticked u.image s.left s (machine.calling u.image (unsigned_abs imm) b) refl (call a b imm is)
+  act_on (instr.Call a b imm) is = ticked u.image s.steps s (machine.calling u.image (unsigned_abs imm) b) refl (call a b imm is)
   act_on (instr.Return b) is = returned u.image s.space.calls (machine.get s b) s placed.linked
   act_on (instr.Static a imm) is = goes_on (instr.Static a imm) is (λ x. x) _ refl refl (omega arith)
   act_on (instr.Local a imm) is = goes_on (instr.Local a imm) is (λ x. x) _ refl refl (omega arith)
   act_on (instr.Wipe imm) is = goes_on (instr.Wipe imm) is (λ x. x) _ refl refl (omega arith)
   act_on (instr.Load kind line a b c) is =
-      load (instr.Load kind line a b c) is (λ x. x) (course u.settings.mode s.space (machine.get s b) (machine.get_number Long s c) (bytes_of_kind kind)) kind line a
+      load (instr.Load kind line a b c) is (λ x. x) (access u.settings.mode s.space (machine.get s b) (machine.get_number Long s c) (bytes_of_kind kind)) kind line a
   act_on (instr.Store kind line a b c) is =
-      store (instr.Store kind line a b c) is (λ x. x) (course u.settings.mode s.space (machine.get s b) (machine.get_number Long s c) (bytes_of_kind kind)) kind line (machine.get s a)
+      store (instr.Store kind line a b c) is (λ x. x) (access u.settings.mode s.space (machine.get s b) (machine.get_number Long s c) (bytes_of_kind kind)) kind line (machine.get s a)
   act_on (instr.Slide a b c imm) is =
       slide (instr.Slide a b c imm) is (λ x. x) (machine.get_number Long s b +ℤ imm *ℤ machine.get_number Long s c) a
   act_on (instr.SlideBy a b imm) is = slide (instr.SlideBy a b imm) is (λ x. x) (machine.get_number Long s b +ℤ imm) a
@@ -296,16 +332,16 @@ module _ (u : Setup) (v : IsVerified u.image) (s : State) (placed : IsPlaced u.i
   act_on (instr.Order relation a b c) is = goes_on (instr.Order relation a b c) is (λ x. x) _ refl refl (omega arith)
   act_on (instr.Difference a b c imm) is = goes_on (instr.Difference a b c imm) is (λ x. x) _ refl refl (omega arith)
   act_on (instr.GetChar a) is =
-      ticked u.image s.left s (λ t. machine.get_char u.input_end t.input a t) refl (λ n e. get_char (instr.GetChar a) is (λ x. x) n e u.input_end s.input a)
+      ticked u.image s.steps s (λ t. machine.get_char u.input_end t.input a t) refl (λ n e. get_char (instr.GetChar a) is (λ x. x) n e u.input_end s.input a)
   act_on (instr.PutChar a b) is =
-      ticked u.image s.left s (λ t. machine.put_char (machine.get t b % 256) a t) refl (λ n e. goes_on (instr.PutChar a b) is (λ x. x) _ refl refl (omega arith))
+      ticked u.image s.steps s (λ t. machine.put_char (machine.get t b % 256) a t) refl (λ n e. goes_on (instr.PutChar a b) is (λ x. x) _ refl refl (omega arith))
   act_on (instr.Malloc a b) is =
-      ticked u.image s.left s (λ t. machine.allocate (place_for u.settings.heap (machine.get t b) t.space) (machine.get t b) a t) refl
-      (λ n e. allocate (instr.Malloc a b) is (λ x. x) n e (place_for u.settings.heap (machine.get s b) s.space) (machine.get s b) a)
+      ticked u.image s.steps s (λ t. machine.allocate (place_for t.space.blocks u.settings.heap (machine.get t b)) (machine.get t b) a t) refl
+      (λ n e. allocate (instr.Malloc a b) is (λ x. x) n e (place_for s.space.blocks u.settings.heap (machine.get s b)) (machine.get s b) a)
   act_on (instr.Calloc a b c) is =
-      ticked u.image s.left s (λ t. machine.allocate (place_for u.settings.heap (machine.get t b * machine.get t c) t.space) (machine.get t b * machine.get t c) a t) refl
-      (λ n e. allocate (instr.Calloc a b c) is (λ x. x) n e (place_for u.settings.heap (machine.get s b * machine.get s c) s.space) (machine.get s b * machine.get s c) a)
+      ticked u.image s.steps s (λ t. machine.allocate (place_for t.space.blocks u.settings.heap (machine.get t b * machine.get t c)) (machine.get t b * machine.get t c) a t) refl
+      (λ n e. allocate (instr.Calloc a b c) is (λ x. x) n e (place_for s.space.blocks u.settings.heap (machine.get s b * machine.get s c)) (machine.get s b * machine.get s c) a)
   act_on (instr.Free line b) is =
-      ticked u.image s.left s (λ t. machine.free (freeing (machine.target t b)) line t) refl
-      (λ n e. free (instr.Free line b) is (λ x. x) n e (freeing (machine.target (record s { left = n }) b)) line)
-  act_on (instr.Exit b) is = ticked u.image s.left s (λ t. stops (ending.Ended (number Int (machine.get t b))) t) refl (λ n e. tt)
+      ticked u.image s.steps s (λ t. machine.free (freeing (machine.target t b)) line t) refl
+      (λ n e. free (instr.Free line b) is (λ x. x) n e (freeing (machine.target (record s { steps = n }) b)) line)
+  act_on (instr.Exit b) is = ticked u.image s.steps s (λ t. stops (ending.Ended (number Int (machine.get t b))) t) refl (λ n e. tt)

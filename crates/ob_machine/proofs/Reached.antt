@@ -25,19 +25,19 @@ pub instruction_there : (image : Image) (calls : List Call) (at : ℕ) → IsVer
 instruction_there image calls at v here = slice_get-get_or image.code at Tick (innermost_in_code image calls at v here)
 
 -- one instruction
-pub step_placed : (u : Setup) (s r : State) → IsVerified u.image → IsPlaced u.image s.space.calls s.at → step u s ≡ goes r → Stays u.image s r
+pub step_placed : (u : Setup) (s r : State) → IsVerified u.image → IsPlaced u.image s.space.calls s.counter → step u s ≡ goes r → Stays u.image s r
 step_placed u s r v p e =
-    let is = instruction_there u.image s.space.calls s.at v p.innermost in
-    let stays = subst (Goes u.image (counted s)) (ap (λ o. machine.act_on u o (counted s)) (sym is) ∙ e) (act_on u v (counted s) p (instruction_at u.image s.at) is) in
+    let is = instruction_there u.image s.space.calls s.counter v p.innermost in
+    let stays = subst (Goes u.image (counted s)) (ap (λ o. machine.act_on u o (counted s)) (sym is) ∙ e) (act_on u v (counted s) p (instruction_at u.image s.counter) is) in
     record { placed = stays.placed; numbered = stays.numbered }
 
 -- starting a run
 pub start_placed : (image : Image) (s r : State) → IsVerified image → s.space.calls ≡ [] → started image s ≡ goes r → Stays image s r
-start_placed image s r v none e = subst (Goes image s) e (placed.ticked image s.left s (λ t. entering image image.main (length image.code) [] t) refl enters)
+start_placed image s r v none e = subst (Goes image s) e (placed.ticked image s.steps s (λ t. entering image image.main (length image.code) [] t) refl enters)
   where
-    enters : (n : ℕ) → s.left ≡ suc n → Goes image s (entering image image.main (length image.code) [] (record s { left = n }))
+    enters : (n : ℕ) → s.steps ≡ suc n → Goes image s (entering image image.main (length image.code) [] (record s { steps = n }))
     enters n left =
-        placed.entering image s image.main (length image.code) [] (record s { left = n }) v v.main.exists
+        placed.entering image s image.main (length image.code) [] (record s { steps = n }) v v.main.exists
         (subst (λ cs. AreLinked image cs) (sym none) tt)
         (subst (λ cs. IsLink image cs (length image.code)) (sym none) refl) (omega arith)
 
@@ -57,11 +57,11 @@ statics_next base object (r ∷ rows) s = statics_next (base + block r.size) (ob
 pub first_next : (statics : List StaticRow) (pointers : List PointerRow) (settings : RunSettings) → (laid_out stack_bytes statics pointers settings).next ≡ length statics + 1
 first_next statics pointers settings = statics_next 4096 1 statics _
 
-leads_placed : (u : Setup) (n : ℕ) (s t : State) → IsVerified u.image → IsPlaced u.image s.space.calls s.at → Leads u n s t → IsPlaced u.image t.space.calls t.at
-leads_placed u zero s t v p l = subst (λ r. IsPlaced u.image r.space.calls r.at) (sym l) p
+leads_placed : (u : Setup) (n : ℕ) (s t : State) → IsVerified u.image → IsPlaced u.image s.space.calls s.counter → Leads u n s t → IsPlaced u.image t.space.calls t.counter
+leads_placed u zero s t v p l = subst (λ r. IsPlaced u.image r.space.calls r.counter) (sym l) p
 leads_placed u (suc n) s t v p l = leads_placed u n l.0 t v (step_placed u s l.0 v p l.1).placed l.2
 
-pub reaches_placed : (u : Setup) (place : ℕ) (input : List ℕ) (steps n : ℕ) (t : State) → IsVerified u.image → Reaches u (laid_out stack_bytes u.image.statics u.image.pointers u.settings) place input steps n t → IsPlaced u.image t.space.calls t.at
+pub reaches_placed : (u : Setup) (place : ℕ) (input : List ℕ) (steps n : ℕ) (t : State) → IsVerified u.image → Reaches u (laid_out stack_bytes u.image.statics u.image.pointers u.settings) place input steps n t → IsPlaced u.image t.space.calls t.counter
 reaches_placed u place input steps n t v r =
     let space = laid_out stack_bytes u.image.statics u.image.pointers u.settings in
     leads_placed u n r.first t v (start_placed u.image (fresh space place input steps) r.first v (no_calls u.image.statics u.image.pointers u.settings) r.starts).placed r.leads

@@ -17,30 +17,30 @@ begins_then xs ys zs p q = (p.0 ++ q.0, q.1 ∙ ap (λ l. l ++ q.0) p.1 ∙ appe
 -- where a run from a state comes to
 pub record Follows (u : Setup) (s : State) (f : Final) : Type 0 where
   pub output : Begins s.output f.state.output
-  pub count : s.count ≤ f.state.count
+  pub instructions : s.instructions ≤ f.state.instructions
   pub ending : (f.ending ≡ Spent) ⊎ CanEnd u.input_end f.ending
 
 -- after an instruction, or after starting
 after_follows : (u : Setup) (s : State) (x : Next) (k : State → Final) → Tells u.input_end s x → ((t : State) → Follows u t (k t)) → Follows u s (after x k)
 after_follows u s (goes t) k h f =
-    record { output = begins_then s.output t.output (k t).state.output h.output (f t).output; count = omega (arith, h.count, (f t).count); ending = (f t).ending }
-after_follows u s (stops e t) k h f = record { output = h.1.output; count = omega (arith, h.1.count); ending = inr h.0 }
+    record { output = begins_then s.output t.output (k t).state.output h.output (f t).output; instructions = omega (arith, h.instructions, (f t).instructions); ending = (f t).ending }
+after_follows u s (stops e t) k h f = record { output = h.1.output; instructions = omega (arith, h.1.instructions); ending = inr h.0 }
 
 pub runs_follow : (u : Setup) (n : ℕ) (s : State) → Follows u s (runs u n s)
-runs_follow u zero s = record { output = ([], sym (append-nil s.output)); count = omega arith; ending = inl refl }
+runs_follow u zero s = record { output = ([], sym (append-nil s.output)); instructions = omega arith; ending = inl refl }
 runs_follow u (suc n) s =
-    let f = after_follows u (counted s) (step u s) (runs u n) (act_on u (slice_get u.image.code s.at) (counted s)) (runs_follow u n) in
-    record { output = f.output; count = omega (arith, f.count); ending = f.ending }
+    let f = after_follows u (counted s) (step u s) (runs u n) (act_on u (slice_get u.image.code s.counter) (counted s)) (runs_follow u n) in
+    record { output = f.output; instructions = omega (arith, f.instructions); ending = f.ending }
 
 -- a run of at least one instruction counts it
-pub runs_count : (u : Setup) (n : ℕ) (s : State) → s.count + 1 ≤ (runs u (suc n) s).state.count
-runs_count u n s = (after_follows u (counted s) (step u s) (runs u n) (act_on u (slice_get u.image.code s.at) (counted s)) (runs_follow u n)).count
+pub runs_count : (u : Setup) (n : ℕ) (s : State) → s.instructions + 1 ≤ (runs u (suc n) s).state.instructions
+runs_count u n s = (after_follows u (counted s) (step u s) (runs u n) (act_on u (slice_get u.image.code s.counter) (counted s)) (runs_follow u n)).instructions
 
 -- starting a run
 starts : (u : Setup) (s : State) → Tells u.input_end s (started u.image s)
 starts u s =
-    tells.ticked u.input_end s.left s (λ t. entering u.image u.image.main (length u.image.code) [] t)
-    (λ n. tells.entering u.input_end s u.image u.image.main (length u.image.code) [] (record s { left = n }) (quiet s _ refl refl))
+    tells.ticked u.input_end s.steps s (λ t. entering u.image u.image.main (length u.image.code) [] t)
+    (λ n. tells.entering u.input_end s u.image u.image.main (length u.image.code) [] (record s { steps = n }) (quiet s _ refl refl))
 
 pub run_follows : (u : Setup) (space : Space) (place : ℕ) (input : List ℕ) (steps : ℕ) → Follows u (fresh space place input steps) (run_from u space place input steps)
 run_follows u space place input steps =
@@ -59,7 +59,7 @@ after_spent u n s (stops e t) h f is = absurd (subst (CanEnd u.input_end) is h.0
 spent_leads : (u : Setup) (n : ℕ) (s : State) → (runs u n s).ending ≡ Spent → (t : State) × Leads u n s t
 spent_leads u zero s e = (s, refl)
 spent_leads u (suc n) s e =
-    let g = after_spent u n (counted s) (step u s) (act_on u (slice_get u.image.code s.at) (counted s)) (spent_leads u n) e in
+    let g = after_spent u n (counted s) (step u s) (act_on u (slice_get u.image.code s.counter) (counted s)) (spent_leads u n) e in
     (g.1, (g.0, g.2, g.3))
 
 leads_spent : (u : Setup) (n : ℕ) (s t : State) → Leads u n s t → (runs u n s).ending ≡ Spent

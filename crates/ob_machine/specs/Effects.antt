@@ -18,8 +18,8 @@ use Rattle.ob_machine.specs.Progress.{IsPlaced}
 -- function, and the numbers of objects stay small, since a call makes 524,288 at most
 pub record IsReady (image : Image) (e : Execution) : Type 0 where
   pub rows : e.space.functions ≡ image.functions
-  pub placed : IsPlaced image e.space.space.calls e.at
-  pub numbered : e.space.space.next + 524288 * e.left < 2 ^ 62
+  pub placed : IsPlaced image e.space.space.calls e.counter
+  pub numbered : e.space.space.next + 524288 * e.steps < 2 ^ 62
 
 -- so many words are enough for the arguments of each function
 abbrev pub HasRoom : Image → ℕ → Type 0
@@ -29,8 +29,8 @@ HasRoom image room = (f : ℕ) → f < length image.functions → (function_at i
 abbrev pub HasEffect : Image → Execution → Execution → Effect → Type 0
 HasEffect image e f (Done answer) =
     (settings : RunSettings) (cycle : List ℕ) (input_end : InputEnd) (r : Beside) →
-    Is answer (act_on (setup image settings cycle input_end) (slice_get image.code e.at) (state_of e r)) f r
+    Is answer (act_on (setup image settings cycle input_end) (slice_get image.code e.counter) (state_of e r)) f r
 HasEffect image e f (Reads a) =
-    (f ≡ e) × (slice_get image.code e.at ≡ Some (GetChar a)) × IsWritten (top_words e.space) a
+    (f ≡ e) × (slice_get image.code e.counter ≡ Some (GetChar a)) × IsWritten (top_words e.space) a
 HasEffect image e f (Writes a b) =
-    (f ≡ e) × (slice_get image.code e.at ≡ Some (PutChar a b)) × IsWritten (top_words e.space) a × (b < top_words e.space)
+    (f ≡ e) × (slice_get image.code e.counter ≡ Some (PutChar a b)) × IsWritten (top_words e.space) a × (b < top_words e.space)

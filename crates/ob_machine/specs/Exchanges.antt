@@ -78,7 +78,7 @@ having_written input written b = record b { input = input; output = b.output ++ 
 
 -- an instruction counts once it is begun
 abbrev pub begun : Execution → Execution
-begun e = record e { count = e.count + 1 }
+begun e = record e { instructions = e.instructions + 1 }
 
 -- ---- one instruction, as a definition says what it does on an input that ends so
 
@@ -99,7 +99,7 @@ pub record FailsToRead (does : InputEnd → State → Next) (e f : Execution) (d
 -- the sink failed, having taken a prefix of what was pending
 pub record FailsToWrite (e f : Execution) (d d' : Devices) : Type 0 where
   pub refill : RefillFailsToWrite d d'
-  pub count : f.count ≡ e.count
+  pub instructions : f.instructions ≡ e.instructions
 
 abbrev pub Answers : (InputEnd → State → Next) → Execution → Execution → Devices → Devices → Result (Option Ending) Fault → Type 0
 Answers does e f d d' (Ok answer) = Advances does e f d d' answer
@@ -140,7 +140,7 @@ pub record RunFailsToWrite (run : InputEnd → State → Final) (e f : Execution
   pub last : Unread
   pub knows_end : KnowsEnd last d'.left
   pub begins : (input_end : InputEnd) (more : List ℕ) (b : Beside) → CanFollow last more input_end → Begins (b.output ++ written) (run input_end (reading e (d.unread.bytes ++ (read ++ more)) b)).state.output
-  pub count : (input_end : InputEnd) (more : List ℕ) (b : Beside) → CanFollow last more input_end → f.count ≤ (run input_end (reading e (d.unread.bytes ++ (read ++ more)) b)).state.count
+  pub instructions : (input_end : InputEnd) (more : List ℕ) (b : Beside) → CanFollow last more input_end → f.instructions ≤ (run input_end (reading e (d.unread.bytes ++ (read ++ more)) b)).state.instructions
 
 abbrev pub RunAnswers : (InputEnd → State → Final) → Execution → Execution → Devices → Devices → Result Ending Fault → Type 0
 RunAnswers run e f d d' (Ok ending) = RunEnds run e f d d' ending

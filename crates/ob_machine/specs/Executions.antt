@@ -21,11 +21,11 @@ pub record Beside : Type 0 where
   pub input : List ℕ
   pub output : List ℕ
   pub events : List StrayEvent
-  pub place : ℕ
+  pub cycle_place : ℕ
 
 abbrev pub state_of : Execution → Beside → State
 state_of e b =
-    record { space = e.space.space; at = e.at; left = e.left; input = b.input; output = b.output; events = b.events; place = b.place; count = e.count }
+    record { space = e.space.space; counter = e.counter; steps = e.steps; input = b.input; output = b.output; events = b.events; cycle_place = b.cycle_place; instructions = e.instructions }
 
 -- what is answered for a definition's next state: nothing where the run goes on, and else how it ends
 abbrev pub Is : Option Ending → Next → Execution → Beside → Type 0

@@ -10,20 +10,20 @@ use Rattle.ob_machine.specs.Executions.{Beside, state_of}
 
 -- what stands beside a run before it starts
 abbrev pub at_start : List ℕ → ℕ → Beside
-at_start input place = record { input = input; output = []; events = []; place = place }
+at_start input place = record { input = input; output = []; events = []; cycle_place = place }
 
 -- it came to the end of the definition's run
 pub record Ended (final : Final) (f : Execution) (w : Writing) (answer : Ending) : Type 0 where
   pub ending : answer ≡ final.ending
   pub output : IsWritten w final.state.output
   pub space : f.space.space ≡ final.state.space
-  pub count : f.count ≡ final.state.count
+  pub instructions : f.instructions ≡ final.state.instructions
 
 -- a write failed before
 pub record Broken (final : Final) (f : Execution) (w : Writing) (answer : Ending) : Type 0 where
   pub ending : answer ≡ WriteFault
   pub output : IsCutOff w final.state.output
-  pub count : f.count ≤ final.state.count
+  pub instructions : f.instructions ≤ final.state.instructions
 
 pub record ComesOut (run : InputEnd → State → Final) (e f : Execution) (r : Reading) (w : Writing) (place : ℕ) (answer : Ending) : Type 0 where
   pub input : List ℕ

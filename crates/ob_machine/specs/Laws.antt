@@ -12,7 +12,7 @@ PlacesStayInTheFunction =
     (u : Setup) (place : ℕ) (input : List ℕ) (steps n : ℕ) (t : State) →
     IsVerified u.image →
     Reaches u (laid_out stack_bytes u.image.statics u.image.pointers u.settings) place input steps n t →
-    IsInnermost u.image t.space.calls t.at
+    IsInnermost u.image t.space.calls t.counter
 
 -- a run is spent exactly where it did as many instructions as it may, and none of them ended it
 abbrev pub SpentAtTheBound : Type 0

@@ -38,14 +38,14 @@ used m space instructions = record m { space = space; is_fresh = false; instruct
 pub record IsDone (final : Final) (m after : MachineState) (e : Ending) (w : Writing) : Type 0 where
   pub ending : e ≡ final.ending
   pub output : IsWritten w final.state.output
-  pub machine : after ≡ used m final.state.space final.state.count
+  pub machine : after ≡ used m final.state.space final.state.instructions
 
 -- a write failed before the definition's run came to its end; memory is left as it was then
 pub record IsBrokenOff (final : Final) (m after : MachineState) (e : Ending) (w : Writing) : Type 0 where
   pub ending : e ≡ WriteFault
   pub output : IsCutOff w final.state.output
   pub machine : after ≡ used m after.space after.instructions
-  pub instructions : after.instructions ≤ final.state.count
+  pub instructions : after.instructions ≤ final.state.instructions
 
 -- what a run comes to, against the definition's
 abbrev pub ComesTo : Final → MachineState → MachineState → Ending → Writing → Type 0

@@ -13,8 +13,8 @@ use Rattle.ob_machine.specs.Effects.{HasRoom}
 -- a fresh machine's memory is laid out, nothing was run, and its buffers are empty
 pub record IsUnused (image : Image) (e : Execution) (p : Ports) : Type 0 where
   pub space : e.space ≡ loaded image e.space.settings
-  pub at : e.at ≡ 0
-  pub count : e.count ≡ 0
+  pub counter : e.counter ≡ 0
+  pub instructions : e.instructions ≡ 0
   pub input : p.input ≡ nothing_read
   pub output : p.output ≡ []
 

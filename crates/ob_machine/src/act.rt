@@ -4,7 +4,8 @@ ghost use Rattle.ob_words.specs.Words.{number};
 ghost use Rattle.ob_model.specs.declared.endings.Ending.TheVariants.{Ended};
 ghost use Rattle.ob_code.specs.Frames.{function_at};
 ghost use Rattle.ob_code.specs.Machine.{calling, get, on, ticked};
-ghost use Rattle.ob_code.specs.Rules.{AreOperandsSound, IsBuilt, IsVerified, words_of};
+ghost use Rattle.ob_code.specs.Rules.{AreOperandsSound, IsVerified, words_of};
+ghost use Rattle.ob_code.specs.Unbuilt.{IsBuilt, IsInstructionBuilt};
 ghost use Rattle.ob_code.specs.State.{goes, stops};
 ghost use Rattle.ob_space.specs.Loaded.{top_words};
 ghost use Rattle.ob_machine.specs.Effects.{HasEffect, HasRoom, IsReady};
@@ -29,28 +30,29 @@ impl Execution {
     /// The next instruction.
     fn fetch(&self, image: &Image) -> Instr
         requires verified { IsVerified image.now }
+        requires built { IsBuilt image.now }
         requires ready { IsReady image.now self.now }
-        ensures is { slice_get image.now.code self.now.at ≡ Some result }
+        ensures is { slice_get image.now.code self.now.counter ≡ Some result }
         ensures operands { AreOperandsSound image.now (top_number self.now.space.space.calls) result }
         ensures words { words_of image.now (top_number self.now.space.space.calls) ≡ top_words self.now.space }
-        ensures built { IsBuilt result }
+        ensures built { IsInstructionBuilt result }
         ensures few { top_words self.now.space < 2 ^ 31 }
-        ensures at { self.now.at < 2 ^ 31 }
+        ensures counter { self.now.counter < 2 ^ 31 }
     {
-        image.code.as_slice()[self.at as usize]
+        image.code.as_slice()[self.counter as usize]
     }
 
     /// Takes a step, where one is left.
     fn tick(&mut self) -> Option<Ending>
-        requires { self.old.at < 2 ^ 32 }
-        ensures state { (r : Beside) → Is result (ticked self.old.left (state_of self.old r) (λ t. goes (on t))) self.new r }
+        requires { self.old.counter < 2 ^ 32 }
+        ensures state { (r : Beside) → Is result (ticked self.old.steps (state_of self.old r) (λ t. goes (on t))) self.new r }
         ensures rows { SameRows self.old.space self.new.space }
     {
-        if self.left == 0 {
+        if self.steps == 0 {
             return Some(Ending::Steps);
         }
-        self.left -= 1;
-        self.at += 1;
+        self.steps -= 1;
+        self.counter += 1;
         None
     }
 
@@ -62,34 +64,35 @@ impl Execution {
         requires inside { b + (function_at image.now.functions (unsigned_abs imm)).params ≤ top_words self.old.space }
         requires few { top_words self.old.space < 2 ^ 31 }
         requires room { HasRoom image.now (vec_capacity arguments.old) }
-        requires at { self.old.at < 2 ^ 32 }
-        ensures state { (r : Beside) → Is result (ticked self.old.left (state_of self.old r) (λ t. calling image.now (unsigned_abs imm) b t)) self.new r }
+        requires counter { self.old.counter < 2 ^ 32 }
+        ensures state { (r : Beside) → Is result (ticked self.old.steps (state_of self.old r) (λ t. calling image.now (unsigned_abs imm) b t)) self.new r }
         ensures rows { SameRows self.old.space self.new.space }
         ensures room { vec_capacity arguments.new ≡ vec_capacity arguments.old }
     {
-        if self.left == 0 {
+        if self.steps == 0 {
             return Some(Ending::Steps);
         }
-        self.left -= 1;
+        self.steps -= 1;
         self.call(image, imm.unsigned_abs() as u32, b, arguments)
     }
 
     /// Takes a step, and ends the run with word `b`.
     fn exit(&mut self, b: u32) -> Option<Ending>
         requires { b < top_words self.old.space }
-        ensures state { (r : Beside) → Is result (ticked self.old.left (state_of self.old r) (λ t. stops (Ended (number Int (get t b))) t)) self.new r }
+        ensures state { (r : Beside) → Is result (ticked self.old.steps (state_of self.old r) (λ t. stops (Ended (number Int (get t b))) t)) self.new r }
         ensures rows { SameRows self.old.space self.new.space }
     {
-        if self.left == 0 {
+        if self.steps == 0 {
             return Some(Ending::Steps);
         }
-        self.left -= 1;
+        self.steps -= 1;
         Some(Ending::Ended(int_of(self.word(b))))
     }
 
     /// Does the next instruction, unless it needs a device. It takes no memory.
     pub(crate) fn act(&mut self, image: &Image, arguments: &mut Vec<u64>) -> Effect
         requires verified { IsVerified image.now }
+        requires built { IsBuilt image.now }
         requires ready { IsReady image.now self.old }
         requires room { HasRoom image.now (vec_capacity arguments.old) }
         ensures effect { HasEffect image.now self.old self.new result }
@@ -129,7 +132,7 @@ impl Execution {
                 None
             }
             Instr::Jump { imm } => {
-                self.at = imm.unsigned_abs();
+                self.counter = imm.unsigned_abs();
                 None
             }
             Instr::JumpZero { b, imm } => {

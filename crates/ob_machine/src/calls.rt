@@ -60,13 +60,13 @@ impl Execution {
         requires next { self.old.space.space.next < 2 ^ 63 }
         ensures state { (r : Beside) → Is result (entering image.now f link arguments.now (state_of self.old r)) self.new r }
         ensures rows { SameRows self.old.space self.new.space }
-        ensures count { self.new.count ≡ self.old.count }
+        ensures instructions { self.new.instructions ≡ self.old.instructions }
     {
         if self.space.enter(f, link).is_err() {
             return Some(Ending::Stack);
         }
         hand_over(&mut self.space, arguments);
-        self.at = u64::from(image.functions.as_slice()[f as usize].entry);
+        self.counter = u64::from(image.functions.as_slice()[f as usize].entry);
         None
     }
 
@@ -80,14 +80,14 @@ impl Execution {
         requires few_words { (function_at image.now.functions f).words < 2 ^ 32 }
         requires room { (function_at image.now.functions f).params ≤ vec_capacity arguments.old }
         requires next { self.old.space.space.next < 2 ^ 63 }
-        requires at { self.old.at < 2 ^ 32 }
+        requires counter { self.old.counter < 2 ^ 32 }
         ensures state { (r : Beside) → Is result (calling image.now f b (state_of self.old r)) self.new r }
         ensures rows { SameRows self.old.space self.new.space }
         ensures room { vec_capacity arguments.new ≡ vec_capacity arguments.old }
     {
         let params = image.functions.as_slice()[f as usize].params;
         gather(&self.space, b, params, arguments);
-        let link = self.at + 1;
+        let link = self.counter + 1;
         self.enter(image, f, link, arguments)
     }
 
@@ -106,8 +106,8 @@ impl Execution {
         if link == code.len() as u64 {
             return Some(Ending::Ended(int_of(w)));
         }
-        self.at = link - 1;
-        let a = named_word(code, self.at);
+        self.counter = link - 1;
+        let a = named_word(code, self.counter);
         self.set_word(a, w);
         None
     }

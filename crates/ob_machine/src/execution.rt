@@ -19,9 +19,9 @@ use ob_words::{BinOp, IntType, Relation};
 #[derive(Drop)]
 pub(crate) struct Execution {
     pub space: Space,
-    pub at: u64,
-    pub left: u64,
-    pub count: u64,
+    pub counter: u64,
+    pub steps: u64,
+    pub instructions: u64,
 }
 
 impl Execution {
@@ -36,19 +36,19 @@ impl Execution {
     /// Writes a word of that frame, and goes on to the next instruction.
     pub(crate) fn set_word(&mut self, a: u32, w: u64)
         requires written { IsWritten (top_words self.old.space) a }
-        requires at { self.old.at < 2 ^ 32 }
+        requires counter { self.old.counter < 2 ^ 32 }
         ensures state { (r : Beside) → set_word (state_of self.old r) a w ≡ goes (state_of self.new r) }
         ensures rows { SameRows self.old.space self.new.space }
     {
         self.space.put_word(a, w);
-        self.at += 1;
+        self.counter += 1;
     }
 
     /// Converts a word to a type.
     pub(crate) fn convert(&mut self, t: IntType, a: u32, b: u32)
         requires written { IsWritten (top_words self.old.space) a }
         requires read { b < top_words self.old.space }
-        requires at { self.old.at < 2 ^ 32 }
+        requires counter { self.old.counter < 2 ^ 32 }
         ensures state { (r : Beside) → set_word (state_of self.old r) a (word (get_number t (state_of self.old r) b)) ≡ goes (state_of self.new r) }
         ensures rows { SameRows self.old.space self.new.space }
     {
@@ -61,7 +61,7 @@ impl Execution {
         requires written { IsWritten (top_words self.old.space) a }
         requires left { b < top_words self.old.space }
         requires right { c < top_words self.old.space }
-        requires at { self.old.at < 2 ^ 32 }
+        requires counter { self.old.counter < 2 ^ 32 }
         ensures state { (r : Beside) → Is result (set_result (binary operator t (get_number t (state_of self.old r) b) (right_number operator t (state_of self.old r) c)) a (state_of self.old r)) self.new r }
         ensures rows { SameRows self.old.space self.new.space }
     {
@@ -77,7 +77,7 @@ impl Execution {
         requires written { IsWritten (top_words self.old.space) a }
         requires left { b < top_words self.old.space }
         requires right { c < top_words self.old.space }
-        requires at { self.old.at < 2 ^ 32 }
+        requires counter { self.old.counter < 2 ^ 32 }
         ensures state { (r : Beside) → set_word (state_of self.old r) a (flag (compare relation (get_number t (state_of self.old r) b) (get_number t (state_of self.old r) c))) ≡ goes (state_of self.new r) }
         ensures rows { SameRows self.old.space self.new.space }
     {
@@ -91,7 +91,7 @@ impl Execution {
         requires left { b < top_words self.old.space }
         requires right { c < top_words self.old.space }
         requires size { unsigned_abs imm ≤ 4194304 }
-        requires at { self.old.at < 2 ^ 32 }
+        requires counter { self.old.counter < 2 ^ 32 }
         ensures state { (r : Beside) → Is result (slide (get_number Long (state_of self.old r) b +ℤ imm *ℤ get_number Long (state_of self.old r) c) a (state_of self.old r)) self.new r }
         ensures rows { SameRows self.old.space self.new.space }
     {
@@ -107,7 +107,7 @@ impl Execution {
         requires written { IsWritten (top_words self.old.space) a }
         requires left { b < top_words self.old.space }
         requires size { unsigned_abs imm ≤ 4194304 }
-        requires at { self.old.at < 2 ^ 32 }
+        requires counter { self.old.counter < 2 ^ 32 }
         ensures state { (r : Beside) → Is result (slide (get_number Long (state_of self.old r) b +ℤ imm) a (state_of self.old r)) self.new r }
         ensures rows { SameRows self.old.space self.new.space }
     {
@@ -121,28 +121,28 @@ impl Execution {
     /// Goes to a place where word `b` is 0, and else on.
     pub(crate) fn jump_zero(&mut self, b: u32, imm: i64)
         requires word { b < top_words self.old.space }
-        requires at { self.old.at < 2 ^ 32 }
+        requires counter { self.old.counter < 2 ^ 32 }
         ensures state { (r : Beside) → at_zero (get (state_of self.old r) b) (goes (jump (unsigned_abs imm) (state_of self.old r))) (goes (on (state_of self.old r))) ≡ goes (state_of self.new r) }
         ensures rows { SameRows self.old.space self.new.space }
     {
         if self.word(b) == 0 {
-            self.at = imm.unsigned_abs();
+            self.counter = imm.unsigned_abs();
         } else {
-            self.at += 1;
+            self.counter += 1;
         }
     }
 
     /// Goes to a place where word `b` isn't 0, and else on.
     pub(crate) fn jump_nonzero(&mut self, b: u32, imm: i64)
         requires word { b < top_words self.old.space }
-        requires at { self.old.at < 2 ^ 32 }
+        requires counter { self.old.counter < 2 ^ 32 }
         ensures state { (r : Beside) → at_zero (get (state_of self.old r) b) (goes (on (state_of self.old r))) (goes (jump (unsigned_abs imm) (state_of self.old r))) ≡ goes (state_of self.new r) }
         ensures rows { SameRows self.old.space self.new.space }
     {
         if self.word(b) == 0 {
-            self.at += 1;
+            self.counter += 1;
         } else {
-            self.at = imm.unsigned_abs();
+            self.counter = imm.unsigned_abs();
         }
     }
 }

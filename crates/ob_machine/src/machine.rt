@@ -37,7 +37,7 @@ impl Model for Machine {
 
     ghost use Rattle.ob_machine.specs.Wiring.{IsWired};
 
-    ghost view = { λ m. record { image = m.image; settings = m.execution.space.settings; space = m.execution.space.space; is_fresh = m.fresh; instructions = m.execution.count } };
+    ghost view = { λ m. record { image = m.image; settings = m.execution.space.settings; space = m.execution.space.space; is_fresh = m.fresh; instructions = m.execution.instructions } };
 
     ghost invariant = { λ m. IsWired m.image m.execution m.ports m.fresh };
 }
@@ -65,9 +65,9 @@ impl Machine {
         Ok(Machine {
             execution: Execution {
                 space,
-                at: 0,
-                left: 0,
-                count: 0,
+                counter: 0,
+                steps: 0,
+                instructions: 0,
             },
             ports: Ports {
                 input: InputBuffer::new(alloc)?,
@@ -92,7 +92,7 @@ impl Machine {
     pub fn instructions(&self) -> u64
         ensures { result ≡ self.now.instructions }
     {
-        self.execution.count
+        self.execution.instructions
     }
 
     /// Makes the machine fresh, as `load` gave it. Takes no memory.
@@ -100,9 +100,9 @@ impl Machine {
         ensures { self.new ≡ loaded self.old.image self.old.settings }
     {
         self.execution.space.clear();
-        self.execution.at = 0;
-        self.execution.left = 0;
-        self.execution.count = 0;
+        self.execution.counter = 0;
+        self.execution.steps = 0;
+        self.execution.instructions = 0;
         self.ports.input.clear();
         self.ports.output.clear();
         self.fresh = true;
@@ -129,7 +129,7 @@ impl Machine {
         let image = self.image.image();
         let limit = (image.code.as_slice().len() as u64 + 1) * (steps + 1);
         self.fresh = false;
-        self.execution.left = steps;
+        self.execution.steps = steps;
         self.execution
             .run_out(image, &mut self.ports, input, out, limit)
     }

@@ -59,16 +59,16 @@ impl Execution {
     /// Takes a step, and reads a byte into word `a`, or -1 at the end of the input.
     pub(crate) fn get_char<S: Source, K: Sink>(&mut self, ports: &mut Ports, source: &mut S, sink: &mut K, a: u32) -> Result<Option<Ending>, Fault>
         requires written { IsWritten (top_words self.old.space) a }
-        requires at { self.old.at < 2 ^ 32 }
+        requires counter { self.old.counter < 2 ^ 32 }
         requires end { KnowsEnd ports.old.input (S.left source.old) }
-        ensures answer { Answers (λ input_end s. ticked s.left s (λ t. get_char input_end t.input a t)) self.old self.new (devices ports.old (S.left source.old) (S.faults source.old) (K.taken sink.old) (K.tally sink.old) (K.faults sink.old)) (devices ports.new (S.left source.new) (S.faults source.new) (K.taken sink.new) (K.tally sink.new) (K.faults sink.new)) result }
+        ensures answer { Answers (λ input_end s. ticked s.steps s (λ t. get_char input_end t.input a t)) self.old self.new (devices ports.old (S.left source.old) (S.faults source.old) (K.taken sink.old) (K.tally sink.old) (K.faults sink.old)) (devices ports.new (S.left source.new) (S.faults source.new) (K.taken sink.new) (K.tally sink.new) (K.faults sink.new)) result }
         ensures rows { SameRows self.old.space self.new.space }
         ensures arguments { ports.new.arguments ≡ ports.old.arguments }
     {
-        if self.left == 0 {
+        if self.steps == 0 {
             return Ok(Some(Ending::Steps));
         }
-        self.left -= 1;
+        self.steps -= 1;
         if ports.input.must_read() {
             if let Err(fault) = ports.refill(source, sink) {
                 return Err(fault);
@@ -83,15 +83,15 @@ impl Execution {
     pub(crate) fn put_char(&mut self, output: &mut OutputBuffer, a: u32, b: u32) -> Option<Ending>
         requires written { IsWritten (top_words self.old.space) a }
         requires read { b < top_words self.old.space }
-        requires at { self.old.at < 2 ^ 32 }
+        requires counter { self.old.counter < 2 ^ 32 }
         requires room { length output.old < 4096 }
-        ensures state { (r : Beside) → Puts result output.old output.new (ticked self.old.left (state_of self.old r) (λ t. put_char (get t b % 256) a t)) self.new r }
+        ensures state { (r : Beside) → Puts result output.old output.new (ticked self.old.steps (state_of self.old r) (λ t. put_char (get t b % 256) a t)) self.new r }
         ensures rows { SameRows self.old.space self.new.space }
     {
-        if self.left == 0 {
+        if self.steps == 0 {
             return Some(Ending::Steps);
         }
-        self.left -= 1;
+        self.steps -= 1;
         let byte = (self.word(b) % 256) as u8;
         output.push(byte);
         self.set_word(a, u64::from(byte));

@@ -2,6 +2,7 @@ ghost use Rattle.std.specs.Prelude.{◌≡◌, ◌+◌, ◌*◌, ◌<◌, ◌≤
 ghost use Rattle.ob_model.specs.declared.settings.RunSettings.{RunSettings};
 ghost use Rattle.ob_code.specs.Machine.{after, runs};
 ghost use Rattle.ob_code.specs.Rules.{IsVerified};
+ghost use Rattle.ob_code.specs.Unbuilt.{IsBuilt};
 ghost use Rattle.ob_code.specs.Start.{started};
 ghost use Rattle.ob_machine.specs.Buffers.{nothing_read};
 ghost use Rattle.ob_machine.specs.Effects.{HasRoom, IsReady};
@@ -21,24 +22,25 @@ impl Execution {
         requires verified { IsVerified image.now }
         requires rows { self.old.space.functions ≡ image.now.functions }
         requires calls { self.old.space.space.calls ≡ [] }
-        requires numbered { self.old.space.space.next + 524288 * self.old.left < 2 ^ 62 }
+        requires numbered { self.old.space.space.next + 524288 * self.old.steps < 2 ^ 62 }
         ensures state { (r : Beside) → Is result (started image.now (state_of self.old r)) self.new r }
         ensures ready { IfNone result (IsReady image.now self.new) }
-        ensures count { self.new.count ≡ self.old.count }
+        ensures instructions { self.new.instructions ≡ self.old.instructions }
         ensures rows { SameRows self.old.space self.new.space }
     {
-        if self.left == 0 {
+        if self.steps == 0 {
             return Some(Ending::Steps);
         }
-        self.left -= 1;
+        self.steps -= 1;
         self.enter(image, image.main, image.code.as_slice().len() as u64, &[])
     }
 
     /// Does at most `limit` instructions.
     fn go<S: Source, K: Sink>(&mut self, image: &Image, ports: &mut Ports, source: &mut S, sink: &mut K, limit: u64) -> Result<Ending, Fault>
         requires verified { IsVerified image.now }
+        requires built { IsBuilt image.now }
         requires ready { IsReady image.now self.old }
-        requires count { self.old.count + limit < 2 ^ 63 }
+        requires instructions { self.old.instructions + limit < 2 ^ 63 }
         requires arguments { HasRoom image.now (vec_capacity ports.old.arguments) }
         requires room { length ports.old.output < 4096 }
         requires end { KnowsEnd ports.old.input (S.left source.old) }
@@ -66,10 +68,11 @@ impl Execution {
     /// Starts a run, and does at most `limit` instructions.
     pub(crate) fn run<S: Source, K: Sink>(&mut self, image: &Image, ports: &mut Ports, source: &mut S, sink: &mut K, limit: u64) -> Result<Ending, Fault>
         requires verified { IsVerified image.now }
+        requires built { IsBuilt image.now }
         requires rows { self.old.space.functions ≡ image.now.functions }
         requires calls { self.old.space.space.calls ≡ [] }
-        requires numbered { self.old.space.space.next + 524288 * self.old.left < 2 ^ 62 }
-        requires count { self.old.count + limit < 2 ^ 63 }
+        requires numbered { self.old.space.space.next + 524288 * self.old.steps < 2 ^ 62 }
+        requires instructions { self.old.instructions + limit < 2 ^ 63 }
         requires arguments { HasRoom image.now (vec_capacity ports.old.arguments) }
         requires room { length ports.old.output < 4096 }
         requires end { KnowsEnd ports.old.input (S.left source.old) }
@@ -86,10 +89,11 @@ impl Execution {
     /// Starts a run, does at most `limit` instructions, and sends what is pending.
     pub(crate) fn run_out<S: Source, K: Sink>(&mut self, image: &Image, ports: &mut Ports, source: &mut S, sink: &mut K, limit: u64) -> Ending
         requires verified { IsVerified image.now }
+        requires built { IsBuilt image.now }
         requires rows { self.old.space.functions ≡ image.now.functions }
         requires calls { self.old.space.space.calls ≡ [] }
-        requires numbered { self.old.space.space.next + 524288 * self.old.left < 2 ^ 62 }
-        requires count { self.old.count + limit < 2 ^ 63 }
+        requires numbered { self.old.space.space.next + 524288 * self.old.steps < 2 ^ 62 }
+        requires instructions { self.old.instructions + limit < 2 ^ 63 }
         requires arguments { HasRoom image.now (vec_capacity ports.old.arguments) }
         requires input { ports.old.input ≡ nothing_read }
         requires output { ports.old.output ≡ [] }

@@ -53,7 +53,7 @@ pub returns-in-Call-clause-effect : goal.returns-in-Call-clause-effect
 returns-in-Call-clause-effect c =
     let fits : FitsSigned w64 c.in-Call.imm = search rules in
     λ settings cycle input_end r. subst (λ x. Is c.tick_and_call.result x c.tick_and_call.new.self r)
-    (ap (λ z. ticked c.args.self.now.left (state_of c.args.self.now r) (λ t. calling c.args.image.now (unsigned_abs z) c.in-Call.b t)) (to_z-of_z w64 c.in-Call.imm fits)
+    (ap (λ z. ticked c.args.self.now.steps (state_of c.args.self.now r) (λ t. calling c.args.image.now (unsigned_abs z) c.in-Call.b t)) (to_z-of_z w64 c.in-Call.imm fits)
     ∙ sym (ap (λ o. act_on (setup c.args.image.now settings cycle input_end) o (state_of c.args.self.now r)) (c.fetch.ensures.is ∙ ap Some c.in-Call.is)))
     (c.tick_and_call.ensures.state r)
 

@@ -22,5 +22,5 @@ returns-clause-answer g c =
           let more : ¬ IsUsedUp c.args.ports.now.input = λ used. let yes = c.must_read.ensures.1 used in let no = w.if-must_read.false in grind (rules, yes, no) in
           rw (w.ports-is, w.source-is, w.sink-is) (still_next before c.requires.end more)
     ] in
-    got_char (λ input_end s. ticked s.left s (λ t. get_char input_end t.input c.args.a t)) c.args.self.now c.set_word.new.self before between c.next.new.self c.next.result c.args.a c.byte_word-w.result
+    got_char (λ input_end s. ticked s.steps s (λ t. get_char input_end t.input c.args.a t)) c.args.self.now c.set_word.new.self before between c.next.new.self c.next.result c.args.a c.byte_word-w.result
     (λ input_end s. refl) c.if-self-eq0.false next (c.next.ensures.end, c.next.ensures.byte) c.byte_word-w.ensures c.set_word.ensures.state

@@ -34,8 +34,8 @@ set_word-requires-clause-written c =
     caller_words image e c.leave.new.self c.named_word-a.result c.requires.rows c.leave.ensures.memory
     (subst (IsWritten (top_function image.functions (left_top image.functions e.space.space.calls e.space.space).calls).words) (sym named) r.written)
 
-pub set_word-requires-clause-at : goal.set_word-requires-clause-at
-set_word-requires-clause-at c =
+pub set_word-requires-clause-counter : goal.set_word-requires-clause-counter
+set_word-requires-clause-counter c =
     let e = c.args.self.now in
     let r = returns_to c.args.image.now e.space.space.calls c.in-Some.link e.space.space (sym c.leave.ensures.link ∙ c.in-Some.is) c.requires.linked (λ last. c.if-link-code.false (last ∙ ap length (sym c.as_slice-code.ensures))) in
     omega (arith, r.within, c.requires.code)

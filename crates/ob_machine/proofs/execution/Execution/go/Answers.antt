@@ -12,7 +12,7 @@ loop-n-init g c =
     record {
       going = λ settings cycle. going_first c.args.image.now settings cycle c.args.limit c.args.self.now d c.requires.end;
       ready = c.requires.ready;
-      count = refl;
+      instructions = refl;
       rows = record { statics = refl; pointers = refl; functions = refl; settings = refl };
       arguments = refl;
       room = c.requires.room;
@@ -61,7 +61,7 @@ loop-n-preserved g c =
     record {
       going = λ settings cycle. turn_on c.args.image.now settings cycle c.args.limit c.loop-n.n c.args.self.now c.loop-n.self c.step.new.self d d' d'' c.loop-n-test.true (c.loop-n.invariant.going settings cycle) (done settings cycle);
       ready = ready_on c.args.image.now c.loop-n.self c.step.new.self d' d'' c.requires.verified c.loop-n.invariant.ready (done any_settings []) c.step.ensures.rows;
-      count = omega (arith, counted_on c.args.image.now c.loop-n.self c.step.new.self d' d'' (done any_settings []), c.loop-n.invariant.count);
+      instructions = omega (arith, counted_on c.args.image.now c.loop-n.self c.step.new.self d' d'' (done any_settings []), c.loop-n.invariant.instructions);
       rows = rows_then c.args.self.now.space c.loop-n.self.space c.step.new.self.space c.loop-n.invariant.rows c.step.ensures.rows;
       arguments = c.step.ensures.arguments ∙ c.loop-n.invariant.arguments;
       room = c.if-is_full.ensures;
@@ -85,7 +85,7 @@ loop-n-preserved-in_default g c =
           (turn_on c.args.image.now settings cycle c.args.limit c.loop-n.n c.args.self.now c.loop-n.self c.step.new.self d d' d'' c.loop-n-test.true (c.loop-n.invariant.going settings cycle) (done settings cycle))
           c.in_default.ensures.bytes c.in_default.ensures.tallied c.in_default.ensures.quiet);
       ready = ready_on c.args.image.now c.loop-n.self c.step.new.self d' d'' c.requires.verified c.loop-n.invariant.ready (done any_settings []) c.step.ensures.rows;
-      count = omega (arith, counted_on c.args.image.now c.loop-n.self c.step.new.self d' d'' (done any_settings []), c.loop-n.invariant.count);
+      instructions = omega (arith, counted_on c.args.image.now c.loop-n.self c.step.new.self d' d'' (done any_settings []), c.loop-n.invariant.instructions);
       rows = rows_then c.args.self.now.space c.loop-n.self.space c.step.new.self.space c.loop-n.invariant.rows c.step.ensures.rows;
       arguments = c.step.ensures.arguments ∙ c.loop-n.invariant.arguments;
       room = let size : length c.send.new.self ≡ 0 = ap length emptied in omega arith;

@@ -11,7 +11,7 @@ invariant-loop-n g l =
     record {
       going : (settings : RunSettings) (cycle : List ℕ) → Going l.image settings cycle l.limit l.n l.fn.self l.self (devices l.fn.ports (g.S.Source.left l.fn.source) (g.S.Source.faults l.fn.source) (g.K.Sink.taken l.fn.sink) (g.K.Sink.tally l.fn.sink) (g.K.Sink.faults l.fn.sink)) (devices l.ports (g.S.Source.left l.source) (g.S.Source.faults l.source) (g.K.Sink.taken l.sink) (g.K.Sink.tally l.sink) (g.K.Sink.faults l.sink));
       ready : IsReady l.image l.self;
-      count : l.self.count + l.n ≡ l.fn.self.count + l.limit;
+      instructions : l.self.instructions + l.n ≡ l.fn.self.instructions + l.limit;
       rows : SameRows l.fn.self.space l.self.space;
       arguments : vec_capacity l.ports.arguments ≡ vec_capacity l.fn.ports.arguments;
       room : length l.ports.output < 4096;

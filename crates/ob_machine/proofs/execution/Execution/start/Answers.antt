@@ -12,7 +12,7 @@ returns-clause-state c =
     let image = c.args.image.now in
     λ r. subst (λ x. Is c.enter.result x c.enter.new.self r)
     (ap (λ k. entering image image.main k [] (state_of (stepped e) r)) (ap length c.as_slice.ensures)
-    ∙ sym (ticked_once e.left (state_of e r) (λ t. entering image image.main (length image.code) [] t) c.if-self-eq0.false))
+    ∙ sym (ticked_once e.steps (state_of e r) (λ t. entering image image.main (length image.code) [] t) c.if-self-eq0.false))
     (c.enter.ensures.state r)
 
 pub returns-clause-ready : goal.returns-clause-ready

@@ -11,5 +11,5 @@ returns-clause-state c =
     let e = c.args.self.now in
     let f = c.unsigned_abs.ensures.value ∙ ap unsigned_abs (to_z-of_z w64 c.args.imm c.ranges.imm) in
     λ r. subst (λ x. Is c.call.result x c.call.new.self r)
-    (ap (λ k. calling c.args.image.now k c.args.b (record (state_of e r) { left = e.left - 1 })) f ∙ sym (ticked_once e.left (state_of e r) (λ t. calling c.args.image.now (unsigned_abs c.args.imm) c.args.b t) c.if-self-eq0.false))
+    (ap (λ k. calling c.args.image.now k c.args.b (record (state_of e r) { steps = e.steps - 1 })) f ∙ sym (ticked_once e.steps (state_of e r) (λ t. calling c.args.image.now (unsigned_abs c.args.imm) c.args.b t) c.if-self-eq0.false))
     (c.call.ensures.state r)
