@@ -4,3 +4,5 @@ pub mod Adding
 pub mod Sound
 pub mod SoundDeclarations
 pub mod SoundStatements
+pub mod Complete
+pub mod CompleteNames
