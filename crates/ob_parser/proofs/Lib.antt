@@ -6,3 +6,4 @@ pub mod SoundDeclarations
 pub mod SoundStatements
 pub mod Complete
 pub mod CompleteNames
+pub mod CompleteStates
