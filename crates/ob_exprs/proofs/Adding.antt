@@ -1,13 +1,12 @@
 -- What lists with one item more spell, that they are valid, and their nodes that have begun.
-use Rattle.std.proofs.Common.{◌≡◌, ℕ, zero, suc, ◌+◌, ◌-◌, ◌≤◌, max, List, [], ◌∷◌, ◌++◌, length, map, refl, sym, ◌∙◌, ap, arith, append_assoc, append-nil, length-append}
+use Rattle.std.proofs.Common.{◌≡◌, ℕ, List, [], ◌∷◌, ◌++◌, map, refl, sym, ◌∙◌, ap, append_assoc, append-nil}
 use Rattle.std.specs.List.{AllByRecursion}
-use Rattle.ob_tree.specs.declared.tokens.TokenKind.{TokenKind}
 use Rattle.ob_tree.specs.declared.tokens.TokenKind.TheVariants as kind
 use Rattle.ob_tree.specs.declared.tokens.Sign.TheVariants as sign
 use Rattle.ob_tree.specs.Trees.{ExprTree, ExprTrees, SpecTree, MemberTrees, ObjTree, ObjTrees, DimTrees}
-use Rattle.ob_tree.specs.Spelling.{spell, spell_arguments, spell_more_arguments, spell_spec, spell_members, spell_objs, spell_more_objs, spell_obj, spell_dims, stars}
-use Rattle.ob_tree.specs.Valid.{Valid, ValidArguments, ValidStrings, ValidSpec, ValidMembers, ValidMemberNames, ValidMemberName, ValidDims, HasDeclarator, HasMember, IsSpelled, IsOf}
-use Rattle.ob_tree.proofs.Machine.{add_argument, add_dim, add_obj, add_member}
+use Rattle.ob_tree.specs.Spelling.{spell, spell_arguments, spell_more_arguments, spell_spec, spell_members, spell_objs, spell_more_objs, spell_obj, spell_dims}
+use Rattle.ob_tree.specs.Valid.{ValidArguments, ValidStrings, ValidSpec, ValidMembers, ValidMemberNames, ValidMemberName, ValidDims, HasDeclarator, HasMember, IsSpelled, IsOf}
+use Rattle.ob_tree.proofs.Frames.{add_argument, add_dim, add_obj, add_member}
 use Rattle.ob_exprs.proofs.Shapes.{spell_arguments_before, spell_objs_before}
 
 -- the last of a list with commas

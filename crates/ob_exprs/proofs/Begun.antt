@@ -1,13 +1,12 @@
 -- When the whole of a tree was read, all of its nodes have begun.
-use Rattle.std.proofs.Common.{◌≡◌, ℕ, zero, suc, ◌+◌, ◌-◌, ◌<◌, ◌≤◌, max, min, List, [], ◌∷◌, ◌++◌, length, map, Bool, true, false, refl, ◌∙◌, ap, arith, length-append}
-use Rattle.std.proofs.lemmas.List.{length-map}
+use Rattle.std.proofs.Common.{◌≡◌, ℕ, zero, suc, ◌+◌, ◌-◌, ◌<◌, ◌≤◌, max, min, List, [], ◌∷◌, ◌++◌, length, Bool, true, false, refl, ◌∙◌, ap, arith, length-append}
 use Rattle.ob_tree.specs.declared.tokens.TokenKind.TheVariants as kind
 use Rattle.ob_tree.specs.declared.tokens.Sign.TheVariants as sign
 use Rattle.ob_tree.specs.Trees.{Mark, Infix, ExprTree, ExprTrees, TypeTree, SpecTree, MemberTrees, ObjTree, ObjTrees, DimTrees, InitTree, InitTrees}
 use Rattle.ob_tree.specs.Spelling.{spell, spell_arguments, spell_more_arguments, spell_type, spell_spec, spell_members, spell_objs, spell_more_objs, spell_obj, spell_dims, spell_init, spell_inits, spell_more_inits, spell_name, spell_comma, infix_sign, stars}
 use Rattle.ob_tree.specs.Valid.{Valid, ValidArguments, ValidType, ValidSpec, ValidMembers, ValidMemberNames, ValidMemberName, ValidDims}
 use Rattle.ob_tree.specs.Places.{width, width_name, width_type, width_spec, width_objs, width_obj, width_dims, width_init}
-use Rattle.ob_tree.specs.Paths.{node_with, begun, begun_arguments, begun_type, begun_spec, begun_members, begun_objs, begun_obj, begun_dims, begun_init, begun_inits, height, height_arguments, height_type, height_spec, height_members, height_objs, height_obj, height_dims, height_init, height_inits}
+use Rattle.ob_tree.specs.Paths.{node_with, begun, begun_arguments, begun_type, begun_spec, begun_members, begun_objs, begun_obj, begun_dims, height, height_arguments, height_type, height_spec, height_members, height_objs, height_obj, height_dims}
 use Rattle.ob_tree.proofs.SpecSteps.{length-stars}
 
 node-pos : (k x : ℕ) → 0 < k → node_with k x ≡ 1 + x

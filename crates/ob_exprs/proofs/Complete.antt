@@ -1,27 +1,22 @@
 -- What the machine holds can be made a whole tree in which no further node has begun.
-use Rattle.std.proofs.Common.{◌≡◌, ℕ, zero, suc, ◌+◌, ◌-◌, ◌≤◌, ◌⊎◌, inl, inr, max, List, [], ◌∷◌, ◌++◌, length, Bool, true, false, refl, sym, ◌∙◌, ap, subst, arith, append_assoc, append-nil, length-append}
+use Rattle.std.proofs.Common.{◌≡◌, ℕ, zero, suc, ◌+◌, ◌-◌, ◌≤◌, ◌⊎◌, inl, inr, max, List, [], ◌∷◌, ◌++◌, length, Bool, sym, ◌∙◌, ap, subst, arith, append_assoc, append-nil, length-append}
 use Rattle.ob_tree.specs.declared.tokens.TokenKind.{TokenKind}
 use Rattle.ob_tree.specs.declared.tokens.TokenKind.TheVariants as kind
-use Rattle.ob_tree.specs.declared.tokens.Keyword.TheVariants as word
 use Rattle.ob_tree.specs.declared.tokens.Sign.TheVariants as sign
-use Rattle.ob_tree.specs.Trees.{Mark, ExprTree, ExprTrees, TypeTree, SpecTree, MemberTrees, ObjTree, ObjTrees, DimTrees}
-use Rattle.ob_tree.specs.Spelling.{spell, spell_type, spell_spec, spell_obj, spell_dims, stars, step_sign, infix_sign}
-use Rattle.ob_tree.specs.Levels.{level_of}
-use Rattle.ob_tree.specs.Valid.{Valid, ValidSpec, ValidDims, IsOf}
-use Rattle.ob_tree.specs.Places.{width, width_name, width_spec, width_dims, width_type}
-use Rattle.ob_tree.specs.Paths.{begun, begun_spec, begun_type, begun_dims, begun_obj, height, height_dims, height_spec, height_members}
-use Rattle.ob_tree.specs.Fronts.{Begins, BeginsExpr, BeginsSpec}
-use Rattle.ob_tree.proofs.Machine.{Head, OfType, OfMember, Body, Line, Frame, InParen, InIndex, InCall, InStep, InUnary, InSize, InCast, InJoin, InThen, InElse, InLength, InType, InStruct, State, Operand, Open, Size, SizeOpen, Called, Select, After, Specifier, StructWord, Members, Declare, Dims, AfterSpec, hole, top_hole, add_argument, add_dim, selected}
+use Rattle.ob_tree.specs.Trees.{Mark, ExprTree, TypeTree, SpecTree, ObjTree, ObjTrees, DimTrees}
+use Rattle.ob_tree.specs.Spelling.{spell, spell_spec, spell_dims, stars}
+use Rattle.ob_tree.specs.Valid.{ValidSpec, IsOf}
+use Rattle.ob_tree.specs.Places.{width_name, width_spec, width_dims, width_type}
+use Rattle.ob_tree.specs.Paths.{begun, begun_spec, begun_dims, height_dims, height_members}
+use Rattle.ob_tree.specs.Fronts.{BeginsExpr, BeginsSpec}
+use Rattle.ob_tree.proofs.Frames.{OfType, OfMember, Body, Line, Frame, InParen, InIndex, InCall, InStep, InUnary, InSize, InCast, InJoin, InThen, InElse, InLength, InType, InStruct, hole, top_hole, add_dim}
 use Rattle.ob_tree.proofs.SpecSteps.{length-stars}
-use Rattle.ob_exprs.specs.Loads.{count, head_rise, head_height, line_height, rise, inner, depth_of, load_stack, load}
-use Rattle.ob_exprs.proofs.Begun.{begun-full, full-type, full-spec, full-dims, full-members, width-type}
-use Rattle.ob_exprs.proofs.Heights.{depth-load}
-use Rattle.ob_exprs.proofs.Shapes.{spell_arguments_before, body_spell, line_spell, type_start, head_spell, frame_spell, stack_spell, select_sign, state_spell, FrameOk, LineOk, BodyOk, HeadOk, TakesSpec, FrameFits, HeadFits, Stands, StateOk, IsGoal}
-use Rattle.ob_exprs.proofs.Adding.{arguments-added, arguments-valid, dims-added, dims-valid}
-use Rattle.ob_exprs.proofs.Kept.{top-most}
+use Rattle.ob_exprs.specs.Loads.{count, rise, inner, depth_of, load_stack}
+use Rattle.ob_exprs.proofs.Shapes.{body_spell, line_spell, type_start, frame_spell, stack_spell, FrameOk, BodyOk, TakesSpec, FrameFits, Stands}
+use Rattle.ob_exprs.proofs.Adding.{dims-added, dims-valid}
 use Rattle.ob_exprs.proofs.SoundAfter.{level-most}
 use Rattle.ob_exprs.proofs.Fills.{IsExprFrame, fill, behind, fill-spell, fill-of, fill-begun}
-use Rattle.ob_exprs.proofs.Filling.{leaf, x, valid-x, begun-argument, begun-dim, struct_with, struct-begun, struct-spell, struct-valid, type-begun, length-body, length-line, begun-member, type_filled, type_behind, type-filled-spell, type-filled-of, type-filled-begun}
+use Rattle.ob_exprs.proofs.Filling.{x, valid-x, begun-dim, struct_with, struct-begun, struct-spell, struct-valid, length-body, begun-member, type_filled, type_behind, type-filled-spell, type-filled-of, type-filled-begun}
 
 -- a whole tree of what is read begins with these tokens, and at most m nodes of a path have begun with them
 abbrev pub Completes : (least m : ℕ) → List TokenKind → Type 0

@@ -1,24 +1,22 @@
 -- A frame with least operands for what doesn't stand there yet, and its nodes that have begun.
-use Rattle.std.proofs.Common.{◌≡◌, ℕ, zero, suc, ◌+◌, ◌-◌, ◌≤◌, ◌⊎◌, inl, inr, max, min, List, [], ◌∷◌, ◌++◌, length, Bool, true, false, Option, refl, sym, ◌∙◌, ap, arith, append_assoc, append-nil, length-append}
-use Rattle.std.specs.Prelude.{IsTrue}
+use Rattle.std.proofs.Common.{◌≡◌, ℕ, zero, suc, ◌+◌, ◌-◌, ◌≤◌, inl, inr, max, List, [], ◌∷◌, ◌++◌, length, Bool, true, false, refl, ◌∙◌, ap, arith, append_assoc, length-append}
 use Rattle.ob_tree.specs.declared.tokens.TokenKind.{TokenKind}
 use Rattle.ob_tree.specs.declared.tokens.TokenKind.TheVariants as kind
 use Rattle.ob_tree.specs.declared.tokens.Keyword.{Keyword}
 use Rattle.ob_tree.specs.declared.tokens.Keyword.TheVariants as word
 use Rattle.ob_tree.specs.declared.tokens.Sign.TheVariants as sign
 use Rattle.ob_tree.specs.Bytes.{is_letter, is_name_byte, is_digit}
-use Rattle.ob_tree.specs.Words.{word_text, IsQualifier, IsName}
+use Rattle.ob_tree.specs.Words.{word_text, IsQualifier}
 use Rattle.ob_tree.specs.Trees.{Mark, ExprTree, ExprTrees, TypeTree, SpecTree, MemberTrees, ObjTree, ObjTrees, DimTrees}
-use Rattle.ob_tree.specs.Spelling.{spell, spell_type, spell_spec, spell_members, spell_objs, spell_obj, spell_dims, spell_name, stars, infix_sign}
-use Rattle.ob_tree.specs.Valid.{Valid, ValidName, ValidTag, ValidArguments, ValidType, ValidSpec, ValidMembers, ValidMemberNames, ValidMemberName, ValidDims, IsOf}
+use Rattle.ob_tree.specs.Spelling.{spell, spell_type, spell_spec, spell_members, spell_obj, spell_name}
+use Rattle.ob_tree.specs.Valid.{ValidName, ValidArguments, ValidType, ValidSpec, ValidMembers, ValidMemberNames, ValidMemberName, ValidDims, IsOf}
 use Rattle.ob_tree.specs.Places.{width, width_name, width_type, width_spec, width_objs, width_obj, width_dims}
-use Rattle.ob_tree.specs.Paths.{begun, begun_arguments, begun_type, begun_spec, begun_members, begun_objs, begun_obj, begun_dims, height, height_arguments, height_type, height_spec, height_members, height_objs, height_dims}
-use Rattle.ob_tree.proofs.Machine.{Head, OfType, OfMember, Body, Line, Frame, InParen, InIndex, InCall, InStep, InUnary, InSize, InCast, InJoin, InThen, InElse, InLength, InType, InStruct, hole, top_hole, add_argument, add_dim, add_obj, add_member}
-use Rattle.ob_tree.proofs.SpecSteps.{length-stars}
-use Rattle.ob_exprs.specs.Loads.{count, line_height, rise, inner}
-use Rattle.ob_exprs.proofs.Begun.{begun-full, full-type, full-spec, full-members, full-names, full-name, width-type, width-sized, width-line, width-bare}
-use Rattle.ob_exprs.proofs.Shapes.{spell_arguments_before, spell_objs_before, body_spell, line_spell, type_start, head_spell, frame_spell, FrameOk, LineOk, BodyOk, TakesSpec, FrameFits, HeadFits}
-use Rattle.ob_exprs.proofs.Adding.{arguments-added, arguments-valid, dims-added, dims-valid, members-added, members-valid, members-some, objs-added, objs-valid, objs-some}
+use Rattle.ob_tree.specs.Paths.{begun, begun_arguments, begun_type, begun_spec, begun_members, begun_objs, begun_obj, begun_dims, height_arguments, height_spec, height_members, height_objs, height_dims}
+use Rattle.ob_tree.proofs.Frames.{Body, Line, Frame, InType, top_hole, add_argument, add_dim, add_obj, add_member}
+use Rattle.ob_exprs.specs.Loads.{count, line_height}
+use Rattle.ob_exprs.proofs.Begun.{begun-full, full-spec, full-names, full-name, width-sized, width-line}
+use Rattle.ob_exprs.proofs.Shapes.{spell_arguments_before, spell_objs_before, body_spell, line_spell, type_start, LineOk, FrameFits}
+use Rattle.ob_exprs.proofs.Adding.{members-added, members-valid, members-some, objs-added, objs-valid, objs-some}
 
 -- the least operand, and a name
 abbrev pub leaf : ExprTree

@@ -1,26 +1,21 @@
 -- The node of a frame with its operand, and with least operands for what doesn't stand there yet.
-use Rattle.std.proofs.Common.{◌≡◌, ℕ, zero, suc, ◌+◌, ◌-◌, ◌≤◌, ◌⊎◌, inl, inr, max, List, [], ◌∷◌, ◌++◌, length, Bool, true, false, refl, sym, ◌∙◌, ap, subst, arith, append_assoc, append-nil, length-append}
+use Rattle.std.proofs.Common.{◌≡◌, ℕ, zero, suc, ◌+◌, ◌-◌, ◌≤◌, max, List, [], ◌∷◌, ◌++◌, length, false, refl, sym, ◌∙◌, ap, arith, append_assoc, append-nil, length-append}
 use Rattle.ob_tree.specs.declared.tokens.TokenKind.{TokenKind}
 use Rattle.ob_tree.specs.declared.tokens.TokenKind.TheVariants as kind
 use Rattle.ob_tree.specs.declared.tokens.Keyword.TheVariants as word
 use Rattle.ob_tree.specs.declared.tokens.Sign.TheVariants as sign
-use Rattle.ob_tree.specs.Trees.{Mark, ExprTree, ExprTrees, TypeTree, SpecTree, MemberTrees, ObjTree, ObjTrees, DimTrees}
-use Rattle.ob_tree.specs.Spelling.{spell, spell_type, spell_spec, spell_obj, spell_dims, stars, step_sign, infix_sign}
-use Rattle.ob_tree.specs.Levels.{level_of}
-use Rattle.ob_tree.specs.Valid.{Valid, ValidSpec, ValidDims, IsOf}
+use Rattle.ob_tree.specs.Trees.{ExprTree, TypeTree}
+use Rattle.ob_tree.specs.Spelling.{spell, spell_type, spell_spec, spell_dims, stars, step_sign, infix_sign}
+use Rattle.ob_tree.specs.Valid.{IsOf}
 use Rattle.ob_tree.specs.Places.{width, width_spec, width_dims, width_type}
-use Rattle.ob_tree.specs.Paths.{begun, begun_spec, begun_type, begun_dims, begun_obj, height, height_dims, height_spec, height_members}
-use Rattle.ob_tree.specs.Fronts.{Begins, BeginsExpr, BeginsSpec}
-use Rattle.ob_tree.proofs.Machine.{Head, OfType, OfMember, Body, Line, Frame, InParen, InIndex, InCall, InStep, InUnary, InSize, InCast, InJoin, InThen, InElse, InLength, InType, InStruct, State, Operand, Open, Size, SizeOpen, Called, Select, After, Specifier, StructWord, Members, Declare, Dims, AfterSpec, hole, top_hole, add_argument, add_dim, selected}
+use Rattle.ob_tree.specs.Paths.{begun}
+use Rattle.ob_tree.proofs.Frames.{OfType, OfMember, Frame, InParen, InIndex, InCall, InStep, InUnary, InSize, InCast, InJoin, InThen, InElse, InLength, InType, InStruct, hole, top_hole, add_argument, add_dim}
 use Rattle.ob_tree.proofs.SpecSteps.{length-stars}
-use Rattle.ob_exprs.specs.Loads.{count, head_rise, head_height, line_height, rise, inner, depth_of, load_stack, load}
-use Rattle.ob_exprs.proofs.Begun.{begun-full, full-type, full-spec, full-dims, full-members, width-type}
-use Rattle.ob_exprs.proofs.Heights.{depth-load}
-use Rattle.ob_exprs.proofs.Shapes.{spell_arguments_before, body_spell, line_spell, type_start, head_spell, frame_spell, stack_spell, select_sign, state_spell, FrameOk, LineOk, BodyOk, HeadOk, TakesSpec, FrameFits, HeadFits, Stands, StateOk, IsGoal}
+use Rattle.ob_exprs.specs.Loads.{rise, inner}
+use Rattle.ob_exprs.proofs.Begun.{begun-full, full-type, width-type}
+use Rattle.ob_exprs.proofs.Shapes.{spell_arguments_before, type_start, frame_spell, FrameOk, FrameFits}
 use Rattle.ob_exprs.proofs.Adding.{arguments-added, arguments-valid, dims-added, dims-valid}
-use Rattle.ob_exprs.proofs.Kept.{top-most}
-use Rattle.ob_exprs.proofs.SoundAfter.{level-most}
-use Rattle.ob_exprs.proofs.Filling.{leaf, x, valid-x, begun-argument, begun-dim, struct_with, struct-begun, struct-spell, struct-valid, type-begun, length-body, length-line, begun-member, type_filled, type_behind, type-filled-spell, type-filled-of, type-filled-begun}
+use Rattle.ob_exprs.proofs.Filling.{leaf, begun-argument, type-begun, type_filled, type_behind, type-filled-spell, type-filled-of, type-filled-begun}
 
 -- the frames that an expression ends as an expression
 abbrev pub IsExprFrame : Frame → Type 0

@@ -3,7 +3,7 @@ use Rattle.std.proofs.Common.{◌≡◌, ℕ, ◌+◌, ◌≤◌, max, List, [],
 use Rattle.ob_tree.specs.Trees.{ExprTree, ExprTrees, TypeTree, SpecTree, MemberTrees, ObjTree, ObjTrees, DimTrees, InitTree, InitTrees}
 use Rattle.ob_tree.specs.Places.{place, place_arguments, place_type, place_spec, place_members, place_objs, place_obj, place_dims, place_init, place_inits, width, width_name, width_type, width_spec, width_objs, width_obj, width_dims, width_init, step_place}
 use Rattle.ob_tree.specs.Paths.{height, height_arguments, height_type, height_spec, height_members, height_objs, height_obj, height_dims, height_init, height_inits}
-use Rattle.ob_tree.proofs.Machine.{Frame, InParen, InIndex, InCall, InStep, InUnary, InSize, InCast, InJoin, InThen, InElse, InLength, InType, InStruct, add_argument, add_dim, add_obj, add_member}
+use Rattle.ob_tree.proofs.Frames.{Frame, InParen, InIndex, InCall, InStep, InUnary, InSize, InCast, InJoin, InThen, InElse, InLength, InType, InStruct, add_argument, add_dim, add_obj, add_member}
 use Rattle.ob_exprs.specs.Loads.{count, rise, inner, depth_of, load_stack}
 
 module _ (lines : ℕ → ℕ) where

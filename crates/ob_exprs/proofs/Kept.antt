@@ -1,17 +1,14 @@
 -- Closing frames keeps what is spelled, the shape and the load.
-use Rattle.std.proofs.Common.{◌≡◌, ℕ, ◌+◌, ◌<◌, ◌≤◌, max, List, [], ◌∷◌, ◌++◌, refl, sym, ◌∙◌, ap, arith, inl, inr, ◌⊎◌, append_assoc}
+use Rattle.std.proofs.Common.{◌≡◌, ℕ, ◌<◌, ◌≤◌, List, [], ◌∷◌, ◌++◌, refl, sym, ◌∙◌, ap, arith, inl, inr, ◌⊎◌, append_assoc}
 use Rattle.std.proofs.lemmas.Bool.{cases_lt}
-use Rattle.ob_tree.specs.declared.tokens.TokenKind.{TokenKind}
 use Rattle.ob_tree.specs.declared.tokens.TokenKind.TheVariants as kind
 use Rattle.ob_tree.specs.declared.tokens.Sign.TheVariants as sign
 use Rattle.ob_tree.specs.Trees.{Infix, ExprTree}
 use Rattle.ob_tree.specs.Spelling.{spell, spell_type, infix_sign}
-use Rattle.ob_tree.specs.Levels.{level_of}
-use Rattle.ob_tree.specs.Valid.{Valid, IsOf}
-use Rattle.ob_tree.specs.Paths.{height}
-use Rattle.ob_tree.proofs.Machine.{Frame, InParen, InIndex, InCall, InStep, InUnary, InSize, InCast, InJoin, InThen, InElse, InLength, InType, InStruct, After, hole, grip, top_hole, close, reduce}
+use Rattle.ob_tree.specs.Valid.{IsOf}
+use Rattle.ob_tree.proofs.Frames.{Frame, InParen, InIndex, InCall, InStep, InUnary, InSize, InCast, InJoin, InThen, InElse, InLength, InType, InStruct, After, hole, grip, top_hole, close, reduce}
 use Rattle.ob_tree.proofs.Settled.{lt-yes, lt-no, binary-most}
-use Rattle.ob_exprs.specs.Loads.{inner, load}
+use Rattle.ob_exprs.specs.Loads.{load}
 use Rattle.ob_exprs.proofs.Shapes.{frame_spell, stack_spell, FrameOk, FrameFits, Stands, IsGoal}
 
 -- no frame waits for more than a unary expression, but for those that wait for a specifier

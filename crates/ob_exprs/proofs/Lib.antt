@@ -1,6 +1,7 @@
 pub mod Begun
 pub mod Heights
 pub mod Within
+pub mod ReachParts
 pub mod Reach
 pub mod Shapes
 pub mod Adding
@@ -12,3 +13,4 @@ pub mod Filling
 pub mod Fills
 pub mod Complete
 pub mod States
+pub mod Exact

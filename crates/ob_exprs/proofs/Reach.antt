@@ -1,83 +1,30 @@
 -- What the machine holds after a part of a tree's tokens is no deeper than the tree's nodes that have begun.
-use Rattle.std.proofs.Common.{◌≡◌, ℕ, zero, suc, ◌+◌, ◌-◌, ◌≤◌, max, min, List, [], ◌∷◌, ◌++◌, length, map, take, Bool, false, true, Option, Some, None, refl, sym, ◌∙◌, ap, arith, inl, inr, ◌⊎◌, append_assoc, length-append}
+use Rattle.std.proofs.Common.{◌≡◌, ℕ, zero, suc, ◌+◌, ◌-◌, ◌≤◌, max, min, List, [], ◌∷◌, ◌++◌, length, take, Bool, false, true, Some, None, refl, sym, ◌∙◌, ap, arith, append_assoc}
 use Rattle.ob_tree.specs.declared.tokens.TokenKind.{TokenKind}
 use Rattle.ob_tree.specs.declared.tokens.TokenKind.TheVariants as kind
-use Rattle.ob_tree.specs.declared.tokens.Keyword.TheVariants as word
 use Rattle.ob_tree.specs.declared.tokens.Sign.TheVariants as sign
 use Rattle.ob_tree.specs.Trees.{Mark, ExprTree, ExprTrees, TypeTree, SpecTree, MemberTrees, ObjTree, ObjTrees, DimTrees}
-use Rattle.ob_tree.specs.Spelling.{spell, spell_arguments, spell_more_arguments, spell_type, spell_spec, spell_members, spell_objs, spell_more_objs, spell_obj, spell_dims, stars, infix_sign}
-use Rattle.ob_tree.specs.Levels.{left_level, level_of}
-use Rattle.ob_tree.specs.Valid.{Valid, ValidArguments, ValidType, ValidSpec, ValidMembers, ValidMemberNames, ValidMemberName, ValidDims, HasMember, HasDeclarator, IsOf}
-use Rattle.ob_tree.specs.Places.{here, signed, place, place_type, place_spec, place_members, place_objs, place_obj, place_dims, width, width_name, width_type, width_spec, width_objs, width_obj, width_dims}
+use Rattle.ob_tree.specs.Spelling.{spell, spell_more_arguments, spell_type, spell_spec, spell_members, spell_objs, spell_more_objs, spell_obj, spell_dims, stars, infix_sign}
+use Rattle.ob_tree.specs.Levels.{left_level}
+use Rattle.ob_tree.specs.Valid.{Valid, ValidArguments, ValidType, ValidSpec, ValidMembers, ValidMemberNames, ValidMemberName, ValidDims, HasDeclarator, IsOf}
+use Rattle.ob_tree.specs.Places.{here, signed, place, place_type, place_spec, place_objs, place_obj, place_dims, width, width_type, width_spec, width_objs, width_obj, width_dims}
 use Rattle.ob_tree.specs.Paths.{begun, begun_arguments, begun_type, begun_spec, begun_members, begun_objs, begun_obj, begun_dims, height, height_arguments, height_spec, height_members, height_objs, height_obj, height_dims, height_type}
-use Rattle.ob_tree.proofs.Machine.{Head, OfType, OfMember, Body, Line, Frame, InParen, InIndex, InCall, InStep, InUnary, InSize, InCast, InJoin, InThen, InElse, InLength, InType, InStruct, State, Operand, Open, Size, SizeOpen, Called, Select, After, Specifier, Members, Declare, Dims, AfterSpec, add_argument, add_dim, add_obj, ended, top_hole, step, run}
-use Rattle.ob_tree.proofs.PlaceKeeps.{mark-place, valid-place, of-place, valid-name, has-member}
+use Rattle.ob_tree.proofs.Frames.{Head, OfType, OfMember, Body, Line, Frame, InParen, InIndex, InCall, InStep, InUnary, InSize, InCast, InJoin, InThen, InElse, InLength, InType, InStruct, State, Operand, Open, SizeOpen, Called, Select, After, Specifier, Members, Declare, Dims, AfterSpec, add_argument, add_dim, add_obj, top_hole}
+use Rattle.ob_tree.proofs.Machine.{ended, run}
+use Rattle.ob_tree.proofs.PlaceKeeps.{mark-place, valid-place, of-place, valid-name}
 use Rattle.ob_tree.proofs.Settled.{settled}
 use Rattle.ob_tree.proofs.SignSteps.{step-join, step-question, step-index, step-dot, step-arrow, step-up, step-down, step-paren, step-argument, step-called, step-bracket, step-length, step-colon}
 use Rattle.ob_tree.proofs.Runs.{run-step}
-use Rattle.ob_tree.proofs.FirstTokens.{FirstOf, BeginsOperand, BeginsSpec, UnaryFirst, NoParen, first-more, first-take, paren-take, first-operand, first-unary, first-spec, open-list, call-list, size-list, open-spec-list, size-spec-list, members-list}
-use Rattle.ob_tree.proofs.SpecSteps.{append_arguments, more_members, more_names, add_name, length-stars, obj_state, type_state, type-stars, type-on, line-on, member-stars, struct-run, struct-ends, name-comma, name-semi}
-use Rattle.ob_tree.proofs.Through.{left-above, unary-step, type-closes, obj-on, through, through-type, through-spec, through-members, through-names, through-obj, through-dims}
-use Rattle.ob_exprs.specs.Loads.{count, head_rise, head_height, line_height, depth_of, load_stack, load}
-use Rattle.ob_exprs.proofs.Begun.{begun-full, full-type, full-spec, full-members, full-names, full-name, full-dims}
-use Rattle.ob_exprs.proofs.Heights.{height-place, type-place, spec-place, members-place, objs-place, obj-place, dims-place, arguments-height, dims-height, dims-count, objs-height, members-height, depth-load}
-use Rattle.ob_exprs.proofs.Within.{Within, newest-stack, within-on, within-then, within-end, within-same, within-as, strings-reach, integer-reach, type-stars-reach, member-stars-reach, type-on-part, line-on-part}
-
--- what a type name leaves has its nodes
-type-load : (m : ℕ) (n : Mark) (z : Bool) (t : TypeTree) (fs : List Frame) → load_stack fs ≤ m → depth_of fs + (1 + height_type t) ≤ m → Within m (Some (type_state n z t fs))
-type-load m n false t fs l d = omega arith
-type-load m n true t fs l d = omega arith
-
-length-more : (xs : List TokenKind) (k : TokenKind) → length (xs ++ k ∷ []) ≡ length xs + 1
-length-more xs k = length-append xs (k ∷ [])
+use Rattle.ob_tree.proofs.FirstTokens.{FirstOf, BeginsOperand, BeginsSpec, first-take, first-operand, first-unary, first-spec, open-list, call-list, open-spec-list, size-spec-list, members-list}
+use Rattle.ob_tree.proofs.SpecSteps.{more_names, add_name, length-stars, obj_state, type_state, type-stars, member-stars, name-comma, name-semi}
+use Rattle.ob_tree.proofs.Through.{left-above, unary-step, type-closes, through, through-type, through-spec, through-names, through-obj, through-dims}
+use Rattle.ob_exprs.specs.Loads.{count, head_rise, head_height, line_height, depth_of, load_stack}
+use Rattle.ob_exprs.proofs.Begun.{begun-full, full-type, full-spec, full-names, full-name, full-dims}
+use Rattle.ob_exprs.proofs.Heights.{height-place, type-place, spec-place, objs-place, obj-place, dims-place, arguments-height, dims-height, dims-count, objs-height, members-height, depth-load}
+use Rattle.ob_exprs.proofs.Within.{Within, newest-stack, within-on, within-then, within-end, within-same, within-as, strings-reach, integer-reach, type-stars-reach, member-stars-reach, type-on-part}
+use Rattle.ob_exprs.proofs.ReachParts.{type-load, length-more, within-name, obj-on-part, reach-size, reach-body}
 
 module _ (lines : ℕ → ℕ) (least : ℕ) where
-  -- the name behind `.` and `->`
-  within-name : (n : Mark) (arrow : Bool) (b : ExprTree) (name : List ℕ) (k q m : ℕ) (fs : List Frame) → load_stack fs ≤ m → depth_of fs + (1 + height b) ≤ m
-      → Within m (run lines least q (take k (kind.Name name ∷ [])) (Some (Select n arrow b fs)))
-  within-name n arrow b name zero q m fs l d = omega arith
-  within-name n false b name (suc k) q m fs l d = within-end lines least (q + 1) k m (Some (After (ExprTree.Member n b name) fs)) (omega arith)
-  within-name n true b name (suc k) q m fs l d = within-end lines least (q + 1) k m (Some (After (ExprTree.Arrow n b name) fs)) (omega arith)
-
-  obj-on-part : (o : ObjTree) (k q : ℕ) (s : SpecTree) (b : Body) (zs : List TokenKind) (fs : List Frame) → ValidMemberName o
-      → run lines least q (take (suc k) (spell_obj o ++ zs)) (Some (AfterSpec s (InStruct b ∷ fs)))
-      ≡ run lines least q (take (suc k) (spell_obj o ++ zs)) (Some (Declare (record { body = b; spec = s; names = ObjTrees.NoDeclarators }) 0 fs))
-  obj-on-part (ObjTree.Initial n name a ds i) k q s b zs fs v = absurd v
-  obj-on-part (ObjTree.Bare n name a ds) k q s b zs fs v =
-      let e = append_assoc (stars n) (kind.Name name ∷ spell_dims ds) zs in
-      ap (λ ks. run lines least q (take (suc k) ks) (Some (AfterSpec s (InStruct b ∷ fs)))) e
-      ∙ line-on-part lines least q k n s b name (spell_dims ds ++ zs) fs
-      ∙ ap (λ ks. run lines least q (take (suc k) ks) (Some (Declare (record { body = b; spec = s; names = ObjTrees.NoDeclarators }) 0 fs))) (sym e)
-
-  -- behind `sizeof`
-  reach-size : (e : ExprTree) (k p m : ℕ) (fs : List Frame) → load_stack fs ≤ m → depth_of fs + 1 ≤ m → UnaryFirst (spell e)
-      → Within m (run lines least (p + 1) (take k (spell e)) (Some (Operand (InSize (here lines p) ∷ fs))))
-      → Within m (run lines least (p + 1) (take k (spell e)) (Some (Size (here lines p) fs)))
-  reach-size e zero p m fs l d f w = omega arith
-  reach-size e (suc k) p m fs l d (inl f) w =
-      within-as lines least m _ (run lines least (p + 1) (take (suc k) (spell e)) (Some (Operand (InSize (here lines p) ∷ fs))))
-      (size-list lines least (p + 1) (here lines p) (take (suc k) (spell e)) fs (inl (first-take NoParen k (spell e) f))) w
-  reach-size e (suc zero) p m fs l d (inr f) w =
-      within-same lines least (p + 1) m 1 (spell e) (kind.Sign sign.OpenParen ∷ (f.token ∷ f.rest)) (Some (Size (here lines p) fs)) f.are (omega arith)
-  reach-size e (suc (suc k)) p m fs l d (inr f) w =
-      within-as lines least m _ (run lines least (p + 1) (take (suc (suc k)) (spell e)) (Some (Operand (InSize (here lines p) ∷ fs))))
-      (size-list lines least (p + 1) (here lines p) (take (suc (suc k)) (spell e)) fs (inr (paren-take k (spell e) f))) w
-
-  -- the members of a structure and its closing brace
-  reach-body : (ms : MemberTrees) (k p m first : ℕ) (tag : Option (List ℕ)) (fs : List Frame) → HasMember ms → ValidMembers ms
-      → load_stack fs ≤ m → depth_of fs + (1 + begun_members ms k) ≤ m
-      → Within m (run lines least p (take k (spell_members ms)) (Some (Members (record { first = first; tag = tag; members = MemberTrees.NoMembers }) fs)))
-      → Within m (run lines least p (take k (spell_members ms ++ kind.Sign sign.CloseBrace ∷ [])) (Some (Members (record { first = first; tag = tag; members = MemberTrees.NoMembers }) fs)))
-  reach-body ms k p m first tag fs h v l d w =
-      let b : Body = record { first = first; tag = tag; members = MemberTrees.NoMembers } in
-      let ms' = place_members lines p ms in
-      within-then lines least p k m (spell_members ms) (kind.Sign sign.CloseBrace) [] (Some (Members b fs)) (Members (more_members b ms') fs) (Some (AfterSpec (SpecTree.Struct first tag ms') fs))
-      (through-members lines least ms p b fs v)
-      (struct-ends first tag ms' fs (has-member lines p ms h))
-      (λ _. w)
-      (λ j n. let hm : height_members ms' ≡ begun_members ms k = members-place lines p ms ∙ sym (full-members ms k v (omega arith)) in
-      within-end lines least _ j m (Some (AfterSpec (SpecTree.Struct first tag ms') fs)) (omega arith))
-
   mutual
     pub reach : (t : ExprTree) (k p m : ℕ) (fs : List Frame) → IsOf (top_hole least fs) t → load_stack fs ≤ m → depth_of fs + begun t k ≤ m
         → Within m (run lines least p (take k (spell t)) (Some (Operand fs)))
@@ -151,7 +98,7 @@ module _ (lines : ℕ → ℕ) (least : ℕ) where
         (step-dot least (here lines q) b' fs (of-place lines p 15 b (v.0.0, v.0.1)).1 ∙ ap (λ k. Some (Select k false b' fs)) (mark-place lines p q b))
         (λ h. reach b (suc k) p m fs (v.0.0, omega (arith, v.1, v.0.1)) l (omega arith))
         (λ j n. let hb : height b' ≡ begun b (suc k) = height-place lines p b ∙ sym (begun-full b (suc k) v.0.0 (omega arith)) in
-        within-name (signed lines p q) false b' name j (q + 1) m fs l (omega arith))
+        within-name lines least (signed lines p q) false b' name j (q + 1) m fs l (omega arith))
     reach (ExprTree.Arrow n b name) (suc k) p m fs v l d =
         let b' = place lines p b in
         let q = p + width b in
@@ -160,7 +107,7 @@ module _ (lines : ℕ → ℕ) (least : ℕ) where
         (step-arrow least (here lines q) b' fs (of-place lines p 15 b (v.0.0, v.0.1)).1 ∙ ap (λ k. Some (Select k true b' fs)) (mark-place lines p q b))
         (λ h. reach b (suc k) p m fs (v.0.0, omega (arith, v.1, v.0.1)) l (omega arith))
         (λ j n. let hb : height b' ≡ begun b (suc k) = height-place lines p b ∙ sym (begun-full b (suc k) v.0.0 (omega arith)) in
-        within-name (signed lines p q) true b' name j (q + 1) m fs l (omega arith))
+        within-name lines least (signed lines p q) true b' name j (q + 1) m fs l (omega arith))
     reach (ExprTree.Step n false false e) (suc k) p m fs v l d =
         let g : suc k - 1 ≡ k = omega arith in
         let d' : depth_of fs + (1 + begun e k) ≤ m = rw g at d in
@@ -200,7 +147,7 @@ module _ (lines : ℕ → ℕ) (least : ℕ) where
     reach (ExprTree.SizeExpr n e) (suc k) p m fs v l d =
         let g : suc k - 1 ≡ k = omega arith in
         let d' : depth_of fs + (1 + begun e k) ≤ m = rw g at d in
-        reach-size e k p m fs l (omega arith) (first-unary e v.0.0 v.0.1) (reach e k (p + 1) m (InSize (here lines p) ∷ fs) v.0 (omega arith) (omega arith))
+        reach-size lines least e k p m fs l (omega arith) (first-unary e v.0.0 v.0.1) (reach e k (p + 1) m (InSize (here lines p) ∷ fs) v.0 (omega arith) (omega arith))
     reach (ExprTree.SizeType n t) (suc zero) p m fs v l d = omega arith
     reach (ExprTree.SizeType n t) (suc (suc zero)) p m fs v l d = omega arith
     reach (ExprTree.SizeType n t) (suc (suc (suc k))) p m fs v l d =
@@ -365,13 +312,13 @@ module _ (lines : ℕ → ℕ) (least : ℕ) where
         let g : suc (suc k) - (0 + 2) ≡ k = omega arith in
         let d' : depth_of fs + (1 + begun_members ms k) ≤ m = rw g at d in
         let b : Body = record { first = p; tag = None; members = MemberTrees.NoMembers } in
-        reach-body ms k (p + 1 + 1) m p None fs v.1 v.2 l d' (reach-members ms k (p + 1 + 1) m b fs v.2 l (omega arith) d')
+        reach-body lines least ms k (p + 1 + 1) m p None fs v.1 v.2 l d' (reach-members ms k (p + 1 + 1) m b fs v.2 l (omega arith) d')
     reach-spec (SpecTree.Struct f (Some tag) ms) (suc (suc zero)) p m fs v l d = omega arith
     reach-spec (SpecTree.Struct f (Some tag) ms) (suc (suc (suc k))) p m fs v l d =
         let g : suc (suc (suc k)) - (1 + 2) ≡ k = omega arith in
         let d' : depth_of fs + (1 + begun_members ms k) ≤ m = rw g at d in
         let b : Body = record { first = p; tag = Some tag; members = MemberTrees.NoMembers } in
-        reach-body ms k (p + 1 + 1 + 1) m p (Some tag) fs v.1 v.2 l d' (reach-members ms k (p + 1 + 1 + 1) m b fs v.2 l (omega arith) d')
+        reach-body lines least ms k (p + 1 + 1 + 1) m p (Some tag) fs v.1 v.2 l d' (reach-members ms k (p + 1 + 1 + 1) m b fs v.2 l (omega arith) d')
 
     reach-members : (ms : MemberTrees) (k p m : ℕ) (b : Body) (fs : List Frame) → ValidMembers ms
         → load_stack fs ≤ m → depth_of fs + (1 + height_members b.members) ≤ m → depth_of fs + (1 + begun_members ms k) ≤ m
@@ -415,7 +362,7 @@ module _ (lines : ℕ → ℕ) (least : ℕ) where
         within-same lines least q m (suc k) ((spell_obj o ++ spell_more_objs os) ++ kind.Sign sign.Semi ∷ []) (spell_obj o ++ zs) (Some (AfterSpec s (InStruct b ∷ fs)))
         (append_assoc (spell_obj o) (spell_more_objs os) (kind.Sign sign.Semi ∷ []))
         (within-as lines least m _ (run lines least q (take (suc k) (spell_obj o ++ zs)) (Some (Declare line 0 fs)))
-        (obj-on-part o k q s b zs fs v.0)
+        (obj-on-part lines least o k q s b zs fs v.0)
         (within-on lines least q (suc k) m (spell_obj o) zs (Some (Declare line 0 fs)) (obj_state line o' fs)
         (through-obj lines least o q line fs v.0)
         (λ _. reach-obj o (suc k) q m line fs v.0 l (omega arith) (omega arith))

@@ -1,5 +1,5 @@
 -- What the machine holds spells what it has read, and each frame stands where its node may stand.
-use Rattle.std.specs.Prelude.{◌≡◌, ℕ, ◌+◌, ◌≤◌, List, [], ◌∷◌, ◌++◌, Bool, false, true, IsTrue}
+use Rattle.std.specs.Prelude.{◌≡◌, ℕ, ◌≤◌, List, [], ◌∷◌, ◌++◌, Bool, false, true, IsTrue}
 use Rattle.ob_tree.specs.declared.tokens.TokenKind.{TokenKind}
 use Rattle.ob_tree.specs.declared.tokens.TokenKind.TheVariants as kind
 use Rattle.ob_tree.specs.declared.tokens.Keyword.TheVariants as word
@@ -9,7 +9,7 @@ use Rattle.ob_tree.specs.Trees.{ExprTrees, ObjTrees}
 use Rattle.ob_tree.specs.Spelling.{spell, spell_type, spell_spec, spell_members, spell_obj, spell_dims, spell_name, stars, step_sign, infix_sign}
 use Rattle.ob_tree.specs.Levels.{is_unary, IsInfix, infix_level, left_level}
 use Rattle.ob_tree.specs.Valid.{Valid, ValidName, ValidTag, ValidArguments, ValidType, ValidSpec, ValidMembers, ValidMemberNames, ValidDims, IsOf}
-use Rattle.ob_tree.proofs.Machine.{Head, OfType, OfMember, Body, Line, Frame, InParen, InIndex, InCall, InStep, InUnary, InSize, InCast, InJoin, InThen, InElse, InLength, InType, InStruct, State, Operand, Open, Size, SizeOpen, Called, Select, After, Specifier, StructWord, Members, Declare, Dims, AfterSpec, top_hole}
+use Rattle.ob_tree.proofs.Frames.{Head, OfType, OfMember, Body, Line, Frame, InParen, InIndex, InCall, InStep, InUnary, InSize, InCast, InJoin, InThen, InElse, InLength, InType, InStruct, State, Operand, Open, Size, SizeOpen, Called, Select, After, Specifier, StructWord, Members, Declare, Dims, AfterSpec, top_hole}
 
 -- arguments and declarators with a comma behind each
 abbrev pub spell_arguments_before : ExprTrees → List TokenKind

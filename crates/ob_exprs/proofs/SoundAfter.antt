@@ -1,26 +1,23 @@
 -- A step of the machine behind a whole operand keeps the shape of what it holds, and spells one token more.
-use Rattle.std.proofs.Common.{◌≡◌, ℕ, ◌+◌, ◌<◌, ◌≤◌, List, [], ◌∷◌, ◌++◌, map, Bool, true, false, Option, Some, None, refl, sym, ◌∙◌, ap, subst, arith, append_assoc, append-nil, cond, ◌&&◌}
-use Rattle.std.specs.Prelude.{nat_le, nat_lt, IsTrue}
+use Rattle.std.proofs.Common.{◌≡◌, ℕ, ◌<◌, ◌≤◌, List, [], ◌∷◌, ◌++◌, map, Bool, true, false, Some, None, refl, sym, ◌∙◌, ap, arith, append_assoc, cond, ◌&&◌}
+use Rattle.std.specs.Prelude.{nat_le, nat_lt}
 use Rattle.std.proofs.lemmas.Bool.{leb-true}
 use Rattle.std.proofs.lemmas.Bool.Decides.{nat_tests}
 use Rattle.ob_tree.specs.declared.tokens.TokenKind.{TokenKind}
 use Rattle.ob_tree.specs.declared.tokens.TokenKind.TheVariants as kind
-use Rattle.ob_tree.specs.declared.tokens.Keyword.{Keyword}
-use Rattle.ob_tree.specs.declared.tokens.Keyword.TheVariants as word
 use Rattle.ob_tree.specs.declared.tokens.Sign.{Sign}
 use Rattle.ob_tree.specs.declared.tokens.Sign.TheVariants as sign
-use Rattle.ob_tree.specs.Trees.{Mark, Infix, ExprTree, ExprTrees, TypeTree, SpecTree, MemberTrees, ObjTree, ObjTrees, DimTrees}
-use Rattle.ob_tree.specs.Spelling.{spell, spell_spec, spell_members, spell_objs, spell_obj, spell_dims, spell_name, stars, step_sign, infix_sign}
-use Rattle.ob_tree.specs.Integers.{is_integer}
+use Rattle.ob_tree.specs.Trees.{Infix, ExprTree}
+use Rattle.ob_tree.specs.Spelling.{spell, spell_dims, step_sign, infix_sign}
 use Rattle.ob_tree.specs.Levels.{binary_level, is_assign, IsInfix, infix_level, left_level, right_level, level_of, mark_of}
-use Rattle.ob_tree.specs.Valid.{ValidSpec, IsOfSource, IsOf}
-use Rattle.ob_tree.proofs.Machine.{Head, OfType, OfMember, Body, Line, Frame, InParen, InIndex, InCall, InCast, InJoin, InThen, InElse, InLength, InType, InStruct, State, Operand, Open, Size, SizeOpen, Called, Select, After, Specifier, StructWord, Members, Declare, Dims, AfterSpec, top_hole, reduce, add_argument, add_dim, add_obj, at_sign, named, ended, specifier, index_to, select_to, step_to, call_to, string_to, join_to, then_to, comma_to, close_paren, close_bracket, colon_to, operator_to, after_sign, after, more_stars, close_type, next_name, end_line, dims_sign, after_dims, declare, spec_under, word_to, brace_to, after_spec, struct_to, close_struct, members_to, step}
-use Rattle.ob_tree.proofs.Lists.{stars-more}
+use Rattle.ob_tree.specs.Valid.{IsOfSource, IsOf}
+use Rattle.ob_tree.proofs.Frames.{Frame, InParen, InIndex, InCall, InJoin, InThen, InLength, Operand, Select, After, top_hole, reduce, at_sign}
+use Rattle.ob_tree.proofs.Machine.{index_to, select_to, step_to, call_to, string_to, join_to, then_to, comma_to, close_paren, close_bracket, colon_to, operator_to, after_sign, after}
 use Rattle.ob_tree.proofs.Settled.{infix-most, binary-most}
-use Rattle.ob_exprs.proofs.Shapes.{spell_arguments_before, spell_objs_before, body_spell, line_spell, type_start, head_spell, stack_spell, select_sign, state_spell, LineOk, HeadOk, TakesSpec, HeadFits, Stands, StateOk, IsGoal}
-use Rattle.ob_exprs.proofs.Adding.{arguments-added, arguments-before, arguments-valid, objs-added, objs-before, objs-valid, objs-some, dims-added, dims-valid, members-added, members-valid, strings-valid, strings-added}
+use Rattle.ob_exprs.proofs.Shapes.{spell_arguments_before, head_spell, stack_spell, select_sign, Stands, IsGoal}
+use Rattle.ob_exprs.proofs.Adding.{arguments-added, arguments-before, arguments-valid, dims-added, dims-valid, strings-valid, strings-added}
 use Rattle.ob_exprs.proofs.Kept.{top-most, Kept, reduce-kept}
-use Rattle.ob_exprs.proofs.Sound.{Good, name-of, spelled-of, cond-good, operand-good, specifier-good, opened-good, sized-good, size-opened-good, called-good, select-good}
+use Rattle.ob_exprs.proofs.Sound.{Good, spelled-of, cond-good}
 
 -- tokens in other groups
 pub last : (a b c : List TokenKind) → a ++ (b ++ c) ≡ (a ++ b) ++ c

@@ -1,19 +1,19 @@
 -- A step of the machine keeps the shape of what it holds, and spells one token more.
-use Rattle.std.proofs.Common.{◌≡◌, ℕ, zero, ◌+◌, ◌≤◌, List, [], ◌∷◌, ◌++◌, map, Bool, true, false, Option, Some, None, refl, sym, ◌∙◌, ap, subst, arith, append_assoc, append-nil}
-use Rattle.std.specs.Prelude.{IsTrue}
+use Rattle.std.proofs.Common.{◌≡◌, ℕ, List, [], ◌∷◌, ◌++◌, map, true, false, Option, refl, sym, ◌∙◌, ap, subst, arith, append_assoc, append-nil}
 use Rattle.ob_tree.specs.declared.tokens.TokenKind.{TokenKind}
 use Rattle.ob_tree.specs.declared.tokens.TokenKind.TheVariants as kind
 use Rattle.ob_tree.specs.declared.tokens.Keyword.{Keyword}
 use Rattle.ob_tree.specs.declared.tokens.Keyword.TheVariants as word
 use Rattle.ob_tree.specs.declared.tokens.Sign.{Sign}
 use Rattle.ob_tree.specs.declared.tokens.Sign.TheVariants as sign
-use Rattle.ob_tree.specs.Trees.{Mark, ExprTree, SpecTree, MemberTrees, ObjTree, ObjTrees, DimTrees, TypeTree}
+use Rattle.ob_tree.specs.Trees.{Mark, SpecTree, MemberTrees, ObjTree, ObjTrees, DimTrees}
 use Rattle.ob_tree.specs.Spelling.{spell_spec, spell_members, spell_objs, spell_obj, spell_dims, spell_name, stars}
 use Rattle.ob_tree.specs.Integers.{is_integer}
 use Rattle.ob_tree.specs.Valid.{ValidSpec, ValidDims, ValidTag, ValidMembers, IsOfSource}
-use Rattle.ob_tree.proofs.Machine.{Head, OfType, OfMember, Body, Line, Frame, InParen, InIndex, InCall, InStep, InUnary, InSize, InCast, InJoin, InThen, InElse, InLength, InType, InStruct, State, Operand, Open, Size, SizeOpen, Called, Select, After, Specifier, StructWord, Members, Declare, Dims, AfterSpec, top_hole, add_obj, named, ended, specifier, more_stars, close_type, next_name, end_line, dims_sign, after_dims, declare, spec_under, word_to, brace_to, after_spec, struct_to, close_struct, members_to, step}
+use Rattle.ob_tree.proofs.Frames.{Head, OfType, OfMember, Body, Line, Frame, InType, InStruct, State, Operand, Open, Size, SizeOpen, Called, Select, After, Specifier, StructWord, Members, Declare, Dims, AfterSpec, add_obj}
+use Rattle.ob_tree.proofs.Machine.{ended, more_stars, close_type, next_name, end_line, dims_sign, after_dims, declare, spec_under, word_to, brace_to, after_spec, struct_to, close_struct, members_to, step}
 use Rattle.ob_tree.proofs.Lists.{stars-more}
-use Rattle.ob_exprs.proofs.Shapes.{spell_objs_before, body_spell, line_spell, type_start, head_spell, stack_spell, state_spell, LineOk, BodyOk, HeadOk, TakesSpec, HeadFits, Stands, StateOk, IsGoal}
+use Rattle.ob_exprs.proofs.Shapes.{spell_objs_before, body_spell, line_spell, type_start, stack_spell, state_spell, LineOk, BodyOk, HeadOk, TakesSpec, HeadFits, Stands, StateOk, IsGoal}
 use Rattle.ob_exprs.proofs.Adding.{objs-added, objs-before, objs-valid, objs-some, members-added, members-valid}
 use Rattle.ob_exprs.proofs.Sound.{Good, name-of, cond-good, operand-good, specifier-good, opened-good, sized-good, size-opened-good, called-good, select-good}
 use Rattle.ob_exprs.proofs.SoundAfter.{last, after-good}

@@ -1,20 +1,20 @@
 -- Each state of the machine can be made a whole tree in which no further node has begun.
-use Rattle.std.proofs.Common.{◌≡◌, ℕ, zero, suc, ◌+◌, ◌-◌, ◌≤◌, max, List, [], ◌∷◌, ◌++◌, length, Bool, true, false, refl, sym, ◌∙◌, ap, subst, arith, append_assoc, append-nil, length-append}
+use Rattle.std.proofs.Common.{◌≡◌, ℕ, zero, suc, ◌+◌, ◌≤◌, max, List, [], ◌∷◌, ◌++◌, length, Bool, true, false, refl, sym, ◌∙◌, subst, arith, append_assoc, append-nil, length-append}
 use Rattle.ob_tree.specs.declared.tokens.TokenKind.{TokenKind}
 use Rattle.ob_tree.specs.declared.tokens.TokenKind.TheVariants as kind
 use Rattle.ob_tree.specs.declared.tokens.Keyword.TheVariants as word
 use Rattle.ob_tree.specs.declared.tokens.Sign.TheVariants as sign
-use Rattle.ob_tree.specs.Trees.{Mark, ExprTree, ExprTrees, TypeTree, SpecTree, ObjTree, ObjTrees, DimTrees}
-use Rattle.ob_tree.specs.Spelling.{spell, spell_spec, spell_obj, spell_dims, stars}
-use Rattle.ob_tree.specs.Valid.{ValidSpec, ValidDims, IsOf}
-use Rattle.ob_tree.specs.Places.{width, width_dims, width_spec, width_type, width_obj}
-use Rattle.ob_tree.specs.Paths.{node_with, begun, begun_spec, begun_type, begun_obj, height, height_dims, height_spec}
-use Rattle.ob_tree.proofs.Machine.{Head, OfType, OfMember, Line, Frame, InParen, InCall, InSize, InType, InStruct, State, Operand, Open, Size, SizeOpen, Called, Select, After, Specifier, StructWord, Members, Declare, Dims, AfterSpec, top_hole}
+use Rattle.ob_tree.specs.Trees.{Mark, ExprTree, ExprTrees, TypeTree, SpecTree, ObjTree, DimTrees}
+use Rattle.ob_tree.specs.Spelling.{spell, spell_spec, spell_dims, stars}
+use Rattle.ob_tree.specs.Valid.{ValidDims, IsOf}
+use Rattle.ob_tree.specs.Places.{width, width_spec, width_type, width_obj}
+use Rattle.ob_tree.specs.Paths.{node_with, begun, height}
+use Rattle.ob_tree.proofs.Frames.{Head, OfType, OfMember, Line, Frame, InParen, InCall, InSize, InType, InStruct, State, Operand, Open, Size, SizeOpen, Called, Select, After, Specifier, StructWord, Members, Declare, Dims, AfterSpec, top_hole}
 use Rattle.ob_tree.proofs.SpecSteps.{length-stars}
 use Rattle.ob_exprs.specs.Loads.{depth_of, line_height, load_stack, load}
 use Rattle.ob_exprs.proofs.Begun.{begun-full, full-type, full-spec, full-name, width-type, width-bare}
 use Rattle.ob_exprs.proofs.Heights.{depth-load}
-use Rattle.ob_exprs.proofs.Shapes.{line_spell, type_start, head_spell, stack_spell, select_sign, state_spell, LineOk, HeadOk, TakesSpec, HeadFits, Stands, StateOk, IsGoal}
+use Rattle.ob_exprs.proofs.Shapes.{line_spell, type_start, stack_spell, state_spell, LineOk, HeadOk, TakesSpec, HeadFits, Stands, StateOk}
 use Rattle.ob_exprs.proofs.Filling.{leaf, x, valid-x, struct_with, struct-begun, struct-spell, struct-valid, type_filled, type_behind, type-filled-spell, type-filled-of, type-filled-begun}
 use Rattle.ob_exprs.proofs.Complete.{Completes, complete-expr, complete-spec}
 

@@ -1,5 +1,5 @@
 -- Runs that keep within so many nodes on a path, in parts.
-use Rattle.std.proofs.Common.{◌≡◌, ℕ, zero, suc, ◌+◌, ◌-◌, ◌<◌, ◌≤◌, max, List, [], ◌∷◌, ◌++◌, length, map, take, Bool, false, true, Option, Some, None, refl, sym, ◌∙◌, ap, subst, arith, inl, inr, ◌⊎◌, append_assoc}
+use Rattle.std.proofs.Common.{◌≡◌, ℕ, zero, suc, ◌+◌, ◌-◌, ◌<◌, ◌≤◌, List, [], ◌∷◌, ◌++◌, length, map, take, Bool, true, Option, Some, None, refl, sym, ◌∙◌, ap, subst, arith, inl, inr, ◌⊎◌, append_assoc}
 use Rattle.std.specs.Prelude.{IsTrue}
 use Rattle.std.proofs.lemmas.List.{take-append-le}
 use Rattle.std.proofs.lemmas.Bool.{cases_lt}
@@ -7,18 +7,18 @@ use Rattle.std.proofs.Math.Seq.{take-append-add}
 use Rattle.ob_tree.specs.declared.tokens.TokenKind.{TokenKind}
 use Rattle.ob_tree.specs.declared.tokens.TokenKind.TheVariants as kind
 use Rattle.ob_tree.specs.declared.tokens.Keyword.{Keyword}
-use Rattle.ob_tree.specs.declared.tokens.Keyword.TheVariants as word
 use Rattle.ob_tree.specs.declared.tokens.Sign.TheVariants as sign
-use Rattle.ob_tree.specs.Trees.{Mark, ExprTree, SpecTree, ObjTree, ObjTrees, DimTrees}
+use Rattle.ob_tree.specs.Trees.{Mark, ExprTree, SpecTree, ObjTrees, DimTrees}
 use Rattle.ob_tree.specs.Spelling.{stars, spell_dims}
 use Rattle.ob_tree.specs.Integers.{is_integer}
 use Rattle.ob_tree.specs.Paths.{height_spec}
 use Rattle.ob_tree.specs.Valid.{ValidDims}
 use Rattle.ob_tree.specs.Places.{here}
-use Rattle.ob_tree.proofs.Machine.{OfType, Body, Line, Frame, InType, InStruct, State, Operand, After, Specifier, Declare, Dims, AfterSpec, spec_word, step, run}
+use Rattle.ob_tree.proofs.Frames.{OfType, Body, Line, Frame, InType, InStruct, State, After, Specifier, Declare, Dims, AfterSpec}
+use Rattle.ob_tree.proofs.Machine.{step, run}
 use Rattle.ob_tree.proofs.IntegerWords.{integer-part}
 use Rattle.ob_tree.proofs.SignSteps.{no}
-use Rattle.ob_tree.proofs.Runs.{run-on, run-then, run-step}
+use Rattle.ob_tree.proofs.Runs.{run-on, run-step}
 use Rattle.ob_tree.proofs.SpecSteps.{integer-starts}
 use Rattle.ob_exprs.specs.Loads.{line_height, depth_of, load_stack, newest_stack, load}
 use Rattle.ob_exprs.proofs.Heights.{depth-load}

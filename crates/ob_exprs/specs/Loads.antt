@@ -4,7 +4,7 @@ use Rattle.ob_exprs.specs.declared.level.Level.{Level}
 use Rattle.ob_exprs.specs.declared.level.Level.TheVariants as level
 use Rattle.ob_tree.specs.Trees.{DimTrees}
 use Rattle.ob_tree.specs.Paths.{height, height_arguments, height_type, height_spec, height_members, height_objs, height_dims}
-use Rattle.ob_tree.proofs.Machine.{Head, OfType, OfMember, Body, Line, Frame, InParen, InIndex, InCall, InStep, InUnary, InSize, InCast, InJoin, InThen, InElse, InLength, InType, InStruct, State, Operand, Open, Size, SizeOpen, Called, Select, After, Specifier, StructWord, Members, Declare, Dims, AfterSpec}
+use Rattle.ob_tree.proofs.Frames.{Head, OfType, OfMember, Line, Frame, InIndex, InCall, InCast, InJoin, InThen, InElse, InLength, InStruct, State, Operand, Open, Size, SizeOpen, Called, Select, After, Specifier, StructWord, Members, Declare, Dims, AfterSpec}
 
 -- the number of the nonterminal
 abbrev pub floor : Level → ℕ

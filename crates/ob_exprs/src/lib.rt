@@ -5,3 +5,6 @@
 pub use level::Level;
 
 mod level;
+mod nodes;
+mod state;
+mod whole;

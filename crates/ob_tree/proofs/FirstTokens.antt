@@ -13,7 +13,8 @@ use Rattle.ob_tree.specs.Integers.{is_integer}
 use Rattle.ob_tree.specs.Levels.{is_unary, level_of}
 use Rattle.ob_tree.specs.Valid.{Valid, ValidSpec}
 use Rattle.ob_tree.specs.Places.{here}
-use Rattle.ob_tree.proofs.Machine.{Frame, InParen, InCall, InSize, InType, InStruct, Body, Operand, Open, Size, SizeOpen, Called, Specifier, Members, operand, opened, size_opened, sized, called, members_to, specifier, is_spec_word, run, top_hole}
+use Rattle.ob_tree.proofs.Frames.{Frame, InParen, InCall, InSize, InType, InStruct, Body, Operand, Open, Size, SizeOpen, Called, Specifier, Members, top_hole}
+use Rattle.ob_tree.proofs.Machine.{operand, opened, size_opened, sized, called, members_to, specifier, is_spec_word, run}
 use Rattle.ob_tree.proofs.Settled.{le-yes, infix-most}
 use Rattle.ob_tree.proofs.SignSteps.{no}
 

@@ -6,6 +6,7 @@ pub mod ProgramRows
 pub mod Rows
 pub mod Examples
 pub mod ProgramExamples
+pub mod Frames
 pub mod Machine
 pub mod PlaceKeeps
 pub mod Settled
@@ -26,3 +27,4 @@ pub mod ProgramDeclarations
 pub mod ProgramThrough
 pub mod OneProgram
 pub mod OneTree
+pub mod Readings

@@ -4,7 +4,8 @@ use Rattle.ob_tree.specs.Trees.{ExprTree, SpecTree}
 use Rattle.ob_tree.specs.Spelling.{spell, spell_spec}
 use Rattle.ob_tree.specs.Valid.{Valid, ValidSpec}
 use Rattle.ob_tree.specs.Places.{place, place_spec, PlacedExpr, PlacedSpec}
-use Rattle.ob_tree.proofs.Machine.{Operand, Specifier, AfterSpec, finish, finish_spec, whole_of, no_level, run}
+use Rattle.ob_tree.proofs.Frames.{Operand, Specifier, AfterSpec, no_level}
+use Rattle.ob_tree.proofs.Machine.{finish, finish_spec, whole_of, run}
 use Rattle.ob_tree.proofs.PlaceKeeps.{valid-place}
 use Rattle.ob_tree.proofs.Settled.{settled, reduce-settled, binds-comma}
 use Rattle.ob_tree.proofs.Through.{through, through-spec}

@@ -2,7 +2,8 @@
 use Rattle.std.proofs.Common.{◌≡◌, ℕ, suc, ◌+◌, List, [], ◌∷◌, ◌++◌, length, Option, Some, None, refl, sym, ◌∙◌, ap, arith}
 use Rattle.ob_tree.specs.declared.tokens.TokenKind.{TokenKind}
 use Rattle.ob_tree.specs.Places.{here}
-use Rattle.ob_tree.proofs.Machine.{State, step, step_if, run}
+use Rattle.ob_tree.proofs.Frames.{State}
+use Rattle.ob_tree.proofs.Machine.{step, step_if, run}
 
 module _ (lines : ℕ → ℕ) (least : ℕ) where
   pub run-append : (p : ℕ) (xs ys : List TokenKind) (s : Option State)

@@ -8,7 +8,7 @@ use Rattle.ob_tree.specs.declared.tokens.Sign.TheVariants as sign
 use Rattle.ob_tree.specs.Trees.{Infix, ExprTree}
 use Rattle.ob_tree.specs.Levels.{binary_level, IsInfix, infix_level, right_level, level_of}
 use Rattle.ob_tree.specs.Valid.{Valid, IsOf}
-use Rattle.ob_tree.proofs.Machine.{Frame, InParen, InIndex, InCall, InStep, InUnary, InSize, InCast, InJoin, InThen, InElse, InLength, InType, InStruct, State, After, hole, grip, top_hole, close, reduce}
+use Rattle.ob_tree.proofs.Frames.{Frame, InParen, InIndex, InCall, InStep, InUnary, InSize, InCast, InJoin, InThen, InElse, InLength, InType, InStruct, State, After, hole, grip, top_hole, close, reduce}
 
 pub lt-yes : (a b : ℕ) → a < b → nat_lt a b ≡ true
 lt-yes a b h = grind (arith, nat_tests)

@@ -8,7 +8,8 @@ use Rattle.ob_tree.specs.Trees.{Mark, Infix, ExprTree, ExprTrees, DimTrees}
 use Rattle.ob_tree.specs.Spelling.{infix_sign}
 use Rattle.ob_tree.specs.Levels.{binary_level, is_assign, IsInfix, infix_level, left_level, level_of, mark_of}
 use Rattle.ob_tree.specs.Valid.{Valid, IsOf}
-use Rattle.ob_tree.proofs.Machine.{Head, Frame, InParen, InIndex, InCall, InJoin, InThen, InElse, InLength, Operand, Select, After, Dims, top_hole, reduce, add_argument, add_dim, at_sign, join_to, comma_to, after_sign, step}
+use Rattle.ob_tree.proofs.Frames.{Head, Frame, InParen, InIndex, InCall, InJoin, InThen, InElse, InLength, Operand, Select, After, Dims, top_hole, reduce, add_argument, add_dim, at_sign}
+use Rattle.ob_tree.proofs.Machine.{join_to, comma_to, after_sign, step}
 use Rattle.ob_tree.proofs.Settled.{le-yes, pend, settled, top_grip, top-grip, reduce-settled, binary-most, binary-least, infix-most, binds-comma, binds-assign, binds-question, binds-binary}
 
 pub no : {A : Type 0} → IsTrue false → A

@@ -11,7 +11,8 @@ use Rattle.ob_tree.specs.Spelling.{stars, spell_name, spell_dims}
 use Rattle.ob_tree.specs.Integers.{is_integer}
 use Rattle.ob_tree.specs.Valid.{ValidDims, ValidMemberName, HasMember}
 use Rattle.ob_tree.specs.Places.{width_name}
-use Rattle.ob_tree.proofs.Machine.{OfType, OfMember, Body, Line, Frame, InCast, InType, InStruct, State, Operand, After, Specifier, Members, Declare, Dims, AfterSpec, add_argument, add_dim, add_obj, add_member, ended, spec_word, close_struct, step, run}
+use Rattle.ob_tree.proofs.Frames.{OfType, OfMember, Body, Line, Frame, InCast, InType, InStruct, State, Operand, After, Specifier, Members, Declare, Dims, AfterSpec, add_argument, add_dim, add_obj, add_member}
+use Rattle.ob_tree.proofs.Machine.{ended, spec_word, close_struct, step, run}
 use Rattle.ob_tree.proofs.IntegerWords.{integer-part}
 use Rattle.ob_tree.proofs.SignSteps.{no}
 use Rattle.ob_tree.proofs.Runs.{run-then, run-from, run-step}

@@ -10,7 +10,8 @@ use Rattle.ob_tree.specs.Spelling.{spell, spell_more_arguments, spell_type, spel
 use Rattle.ob_tree.specs.Levels.{is_unary, infix_level, left_level}
 use Rattle.ob_tree.specs.Valid.{Valid, ValidArguments, ValidType, ValidSpec, ValidMembers, ValidMemberNames, ValidMemberName, ValidDims, HasDeclarator, IsOf}
 use Rattle.ob_tree.specs.Places.{here, signed, place, place_arguments, place_type, place_spec, place_members, place_objs, place_obj, place_dims, width, width_name, width_type, width_spec, width_objs, width_obj, width_dims}
-use Rattle.ob_tree.proofs.Machine.{Head, OfType, OfMember, Body, Line, Frame, InParen, InIndex, InCall, InStep, InUnary, InSize, InCast, InJoin, InThen, InElse, InLength, InType, InStruct, State, Operand, Open, SizeOpen, Called, Select, After, Specifier, Members, Declare, Dims, AfterSpec, add_argument, add_dim, ended, operand, top_hole, step, run}
+use Rattle.ob_tree.proofs.Frames.{Head, OfType, OfMember, Body, Line, Frame, InParen, InIndex, InCall, InStep, InUnary, InSize, InCast, InJoin, InThen, InElse, InLength, InType, InStruct, State, Operand, Open, SizeOpen, Called, Select, After, Specifier, Members, Declare, Dims, AfterSpec, add_argument, add_dim, top_hole}
+use Rattle.ob_tree.proofs.Machine.{ended, operand, step, run}
 use Rattle.ob_tree.proofs.PlaceKeeps.{mark-place, valid-place, of-place, valid-name, has-member}
 use Rattle.ob_tree.proofs.Settled.{settled}
 use Rattle.ob_tree.proofs.SignSteps.{no, step-join, step-question, step-index, step-dot, step-arrow, step-up, step-down, step-paren, step-argument, step-called, step-bracket, step-length, step-colon}

@@ -23,3 +23,6 @@ pub mod ProgramValid
 pub mod ProgramPlaces
 pub mod ProgramPaths
 pub mod ProgramFronts
+pub mod Types
+pub mod TypeView
+pub mod Answers

@@ -5,7 +5,7 @@
 
 pub use constants::{Base, Suffix};
 pub use expressions::{Dim, Expr, ExprNode, Init, MemberDecl, ObjDecl, Spec, SpecNode, TypeName};
-pub use faults::{LexFault, LexKind};
+pub use faults::{LexFault, LexKind, SourceFault, SyntaxFault, SyntaxKind, TypeFault, TypeKind};
 pub use first::{First, FirstFault, law_first_text, parse_first};
 pub use one_program::law_spell;
 pub use one_tree::{law_expression, law_specifier};
@@ -14,6 +14,7 @@ pub use programs::{
     BlockItem, FileDecl, ForStart, Item, ItemNode, Local, Param, Params, Program, Stmt, StmtNode,
 };
 pub use tokens::{Keyword, Sign, Span, Token, TokenKind};
+pub use types::{CType, MemberRow, StructRow, Structs};
 
 mod constant;
 mod constants;
@@ -31,3 +32,4 @@ mod sum;
 mod tests;
 mod text;
 mod tokens;
+mod types;

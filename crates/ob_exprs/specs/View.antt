@@ -1,0 +1,90 @@
+-- What the parser holds, as the machine sees it.
+use Rattle.std.specs.Prelude.{◌≡◌, ◌≤◌, List, map, reverse, Option, Some, None}
+use Rattle.ob_tree.specs.Trees.{Mark, Infix}
+use Rattle.ob_tree.specs.ExpressionView.{expr_tree, spec_tree, type_tree, obj_trees, dim_trees}
+use Rattle.ob_tree.proofs.Frames as plain
+use Rattle.ob_tree.proofs.Frames.{Frame, State}
+use Rattle.ob_tree.proofs.Machine.{finish, finish_spec}
+use Rattle.ob_exprs.specs.declared.state.Place.{Place}
+use Rattle.ob_exprs.specs.declared.state.Operator.{Operator}
+use Rattle.ob_exprs.specs.declared.state.Operator.TheVariants as op
+use Rattle.ob_exprs.specs.declared.state.Body.{Body}
+use Rattle.ob_exprs.specs.declared.state.Line.{Line}
+use Rattle.ob_exprs.specs.declared.state.Head.{Head}
+use Rattle.ob_exprs.specs.declared.state.Head.TheVariants as head
+use Rattle.ob_exprs.specs.declared.state.Waiting.{Waiting}
+use Rattle.ob_exprs.specs.declared.state.Waiting.TheVariants as waiting
+use Rattle.ob_exprs.specs.declared.state.Mode.{Mode}
+use Rattle.ob_exprs.specs.declared.state.Mode.TheVariants as mode
+use Rattle.ob_exprs.specs.declared.state.Reader.{Reader}
+use Rattle.ob_exprs.specs.declared.state.Answer.{Answer}
+use Rattle.ob_exprs.specs.declared.state.Answer.TheVariants as answer
+use Rattle.ob_exprs.specs.Lists.{argument_trees, member_trees}
+use Rattle.ob_exprs.specs.Loads.{load}
+
+abbrev pub mark : Place → Mark
+mark p = record { first = p.first; at = p.at; line = p.line }
+
+abbrev pub infix_of : Operator → Infix
+infix_of op.Comma = Infix.Comma
+infix_of (op.Assign s) = Infix.Assign s
+infix_of (op.Binary s) = Infix.Binary s
+
+abbrev pub body_of : Body → plain.Body
+body_of b = record { first = b.first; tag = b.tag; members = member_trees b.members.items.items }
+
+abbrev pub line_of : Line → plain.Line
+line_of l = record { body = body_of l.body; spec = spec_tree l.spec.spec; names = obj_trees l.names.items.items }
+
+abbrev pub head_of : Head → plain.Head
+head_of (head.Type p z s n) = plain.OfType (mark p) z (spec_tree s.spec) n
+head_of (head.Member l n name a) = plain.OfMember (line_of l) n name a
+
+abbrev pub frame_of : Waiting → Frame
+frame_of (waiting.Paren p) = plain.InParen (mark p)
+frame_of (waiting.Index p b) = plain.InIndex (mark p) (expr_tree b.expr)
+frame_of (waiting.Call p name es) = plain.InCall (mark p) name (argument_trees es.items.items)
+frame_of (waiting.Step p down) = plain.InStep (mark p) down
+frame_of (waiting.Unary p s) = plain.InUnary (mark p) s
+frame_of (waiting.Size p) = plain.InSize (mark p)
+frame_of (waiting.Cast p t) = plain.InCast (mark p) (type_tree t.name)
+frame_of (waiting.Join p o l) = plain.InJoin (mark p) (infix_of o) (expr_tree l.expr)
+frame_of (waiting.Then p c) = plain.InThen (mark p) (expr_tree c.expr)
+frame_of (waiting.Else p c x) = plain.InElse (mark p) (expr_tree c.expr) (expr_tree x.expr)
+frame_of (waiting.Length h ds) = plain.InLength (head_of h) (dim_trees ds.items.items)
+frame_of (waiting.Type p z) = plain.InType (mark p) z
+frame_of (waiting.Struct b) = plain.InStruct (body_of b)
+
+-- the newest first
+abbrev pub frames : List Waiting → List Frame
+frames ws = map frame_of (reverse ws)
+
+abbrev pub mode_state : Mode → List Frame → State
+mode_state mode.Operand fs = plain.Operand fs
+mode_state (mode.Open p) fs = plain.Open (mark p) fs
+mode_state (mode.Size p) fs = plain.Size (mark p) fs
+mode_state (mode.SizeOpen p q) fs = plain.SizeOpen (mark p) (mark q) fs
+mode_state (mode.Called p name) fs = plain.Called (mark p) name fs
+mode_state (mode.Select p arrow b) fs = plain.Select (mark p) arrow (expr_tree b.expr) fs
+mode_state (mode.After e) fs = plain.After (expr_tree e.expr) fs
+mode_state mode.Specifier fs = plain.Specifier fs
+mode_state (mode.StructWord f) fs = plain.StructWord f fs
+mode_state (mode.Members b) fs = plain.Members (body_of b) fs
+mode_state (mode.Declare l n) fs = plain.Declare (line_of l) n fs
+mode_state (mode.Dims h ds) fs = plain.Dims (head_of h) (dim_trees ds.items.items) fs
+mode_state (mode.AfterSpec s) fs = plain.AfterSpec (spec_tree s.spec) fs
+
+abbrev pub state_of : Reader → State
+state_of r = mode_state r.mode (frames r.stack.items)
+
+-- what a token leads to that nothing whole stands before
+abbrev pub Leads : Option Reader → Option State → Type 0
+Leads (Some r) next = next ≡ Some (state_of r)
+Leads None next = next ≡ None
+
+-- what one token leads to: the next state, or none, and then what was read is unchanged
+abbrev pub Answers : State → Answer → Option State → Type 0
+Answers s (answer.Goes r) next = next ≡ Some (state_of r)
+Answers s (answer.Stays r) next =
+    (next ≡ None) × (finish (state_of r) ≡ finish s) × (finish_spec (state_of r) ≡ finish_spec s) × (load (state_of r) ≤ load s)
+Answers s answer.Stuck next = (next ≡ None) × (finish s ≡ None) × (finish_spec s ≡ None)

@@ -1,0 +1,126 @@
+use crate::whole::{Arguments, Dims, Members, Names, Whole, WholeSpec, WholeType};
+use ob_base::Text;
+use ob_tree::Sign;
+
+/// Where an expression stands: the places of its first token and of its own sign, and the line of
+/// the first token.
+#[derive(Clone, Copy, Debug, PartialEq, Eq)]
+pub struct Place {
+    pub first: u32,
+    pub at: u32,
+    pub line: u32,
+}
+
+/// What joins two operands.
+#[derive(Clone, Copy, Debug, PartialEq, Eq)]
+pub enum Operator {
+    Comma,
+    Assign(Sign),
+    Binary(Sign),
+}
+
+/// A structure that has begun: the place of its first token, its tag, and the members so far.
+#[derive(Drop)]
+pub struct Body {
+    pub first: u32,
+    pub tag: Option<Text>,
+    pub members: Members,
+}
+
+/// A line of members that has begun: its specifier, and the names so far.
+#[derive(Drop)]
+pub struct Line {
+    pub body: Body,
+    pub spec: WholeSpec,
+    pub names: Names,
+}
+
+/// What a row of brackets stands behind.
+#[derive(Drop)]
+pub enum Head {
+    /// The stars of the type name of a cast or, where `sized`, of a `sizeof`.
+    Type {
+        place: Place,
+        sized: bool,
+        spec: WholeSpec,
+        stars: u32,
+    },
+    /// The stars and the name of a member.
+    Member {
+        line: Line,
+        stars: u32,
+        name: Text,
+        at: u32,
+    },
+}
+
+/// A node that waits for its last part.
+#[derive(Drop)]
+pub enum Waiting {
+    Paren(Place),
+    Index(Place, Whole),
+    Call(Place, Text, Arguments),
+    Step(Place, bool),
+    Unary(Place, Sign),
+    Size(Place),
+    Cast(Place, WholeType),
+    Join(Place, Operator, Whole),
+    /// Between `?` and `:`.
+    Then(Place, Whole),
+    /// Behind `:`.
+    Else(Place, Whole, Whole),
+    /// In a bracket behind these.
+    Length(Head, Dims),
+    /// A cast or, where true, a `sizeof` that waits for the specifier of its type name.
+    Type(Place, bool),
+    /// A structure that waits for the specifier of a line of members.
+    Struct(Body),
+}
+
+/// What comes next, or what was read last.
+#[derive(Drop)]
+pub enum Mode {
+    /// An operand comes.
+    Operand,
+    /// `(` was read, of a cast or not.
+    Open(Place),
+    /// `sizeof` was read.
+    Size(Place),
+    /// `sizeof` and `(` were read.
+    SizeOpen(Place, Place),
+    /// A name and `(` were read.
+    Called(Place, Text),
+    /// An operand and `.` or, where true, `->` were read.
+    Select(Place, bool, Whole),
+    /// A whole operand was read.
+    After(Whole),
+    /// A specifier comes.
+    Specifier,
+    /// `struct` was read.
+    StructWord(u32),
+    /// `{` of a structure or `;` of its members was read.
+    Members(Body),
+    /// The stars of a member were read.
+    Declare(Line, u32),
+    /// A row of brackets was read.
+    Dims(Head, Dims),
+    /// A whole specifier was read.
+    AfterSpec(WholeSpec),
+}
+
+/// What was read.
+#[derive(Drop)]
+pub struct Reader {
+    pub stack: Vec<Waiting>,
+    pub mode: Mode,
+}
+
+/// What one token leads to.
+#[derive(Drop)]
+pub enum Answer {
+    Goes(Reader),
+    /// No tree goes on so. What was read stands for the same whole tree as before, if for any.
+    Stays(Reader),
+    /// No tree goes on so, and what was read is no whole tree.
+    Stuck,
+}
