@@ -7,3 +7,4 @@ pub mod SoundStatements
 pub mod Complete
 pub mod CompleteNames
 pub mod CompleteStates
+pub mod Full
