@@ -60,11 +60,11 @@ module _ (lines : ℕ → ℕ) where
     dims-place p (DimTrees.Unsized ds) = ap (λ h. 1 + h) (dims-place (p + 2) ds)
     dims-place p (DimTrees.Sized e ds) = rw (height-place (p + 1) e, dims-place (p + width e + 2) ds) refl
 
-    init-place : (p : ℕ) (i : InitTree) → height_init (place_init lines p i) ≡ height_init i
+    pub init-place : (p : ℕ) (i : InitTree) → height_init (place_init lines p i) ≡ height_init i
     init-place p (InitTree.Value e) = height-place p e
     init-place p (InitTree.Braces f is comma) = ap (λ h. 1 + h) (inits-place (p + 1) is)
 
-    inits-place : (p : ℕ) (is : InitTrees) → height_inits (place_inits lines p is) ≡ height_inits is
+    pub inits-place : (p : ℕ) (is : InitTrees) → height_inits (place_inits lines p is) ≡ height_inits is
     inits-place p InitTrees.NoItems = refl
     inits-place p (InitTrees.Item i is) = rw (init-place p i, inits-place (p + width_init i + 1) is) refl
 

@@ -4,3 +4,7 @@ pub mod Adding
 pub mod Sound
 pub mod SoundDeclarations
 pub mod SoundStatements
+pub mod Complete
+pub mod CompleteNames
+pub mod CompleteStates
+pub mod Full

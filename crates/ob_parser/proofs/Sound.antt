@@ -49,7 +49,7 @@ more-objects o [] n v = refl
 more-objects o (FileTree.Object x ∷ xs) n v = ap (λ ks. kind.Sign sign.Comma ∷ (spell_obj x ++ ks)) (more-objects o xs n v.1)
 more-objects o (FileTree.Function i name a ps ∷ xs) n v = absurd (n v.0)
 
-all-objects : (o : Owner) (xs : List FileTree) → (IsOuter o → ⊥) → AllByRecursion (MayDeclare o) xs → spell_objs (objects xs) ≡ listed spell_file xs
+pub all-objects : (o : Owner) (xs : List FileTree) → (IsOuter o → ⊥) → AllByRecursion (MayDeclare o) xs → spell_objs (objects xs) ≡ listed spell_file xs
 all-objects o [] n v = refl
 all-objects o (FileTree.Object x ∷ xs) n v = ap (λ ks. spell_obj x ++ ks) (sym (more-objects o xs n v.1))
 all-objects o (FileTree.Function i name a ps ∷ xs) n v = absurd (n v.0)
@@ -59,7 +59,7 @@ valid-objects o [] n v w = tt
 valid-objects o (FileTree.Object x ∷ xs) n v w = (w.0, valid-objects o xs n v.1 w.1)
 valid-objects o (FileTree.Function i name a ps ∷ xs) n v w = absurd (n v.0)
 
-valid-names : (o : Owner) (s : SpecTree) (xs : List FileTree) → (IsOuter o → ⊥) → AllByRecursion (MayDeclare o) xs → ValidFiles s xs → ValidNames s (objects xs)
+pub valid-names : (o : Owner) (s : SpecTree) (xs : List FileTree) → (IsOuter o → ⊥) → AllByRecursion (MayDeclare o) xs → ValidFiles s xs → ValidNames s (objects xs)
 valid-names o s [] n v w = w
 valid-names o s (FileTree.Object x ∷ xs) n v w = (w.0, valid-objects o xs n v.1 w.1)
 valid-names o s (FileTree.Function i name a ps ∷ xs) n v w = absurd (n v.0)
@@ -101,7 +101,7 @@ end-good (Start g h fs) f n fixed s xs ok b v m w =
     )
 
 -- behind a declarator
-valid-more : (s : SpecTree) (xs : List FileTree) (x : FileTree) → AllByRecursion ValidFile xs → ValidFile x → ValidFiles s (xs ++ x ∷ [])
+pub valid-more : (s : SpecTree) (xs : List FileTree) (x : FileTree) → AllByRecursion ValidFile xs → ValidFile x → ValidFiles s (xs ++ x ∷ [])
 valid-more s [] x v w = (w, tt)
 valid-more s (y ∷ ys) x v w = (v.0, all-more ValidFile ys x v.1 w)
 

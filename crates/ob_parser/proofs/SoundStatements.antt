@@ -154,17 +154,17 @@ used-good k (IfTest f n fs) None ok v = tt
 used-good k (WhileTest f n fs) None ok v = tt
 used-good k (DoTest f n s fs) None ok v = tt
 
-use-goal : (u : Use) → expr.IsGoal (use_level u)
-use-goal (Length h ds) g = omega arith
-use-goal (Item t is) g = omega arith
-use-goal (Statement f n fs) g = omega arith
-use-goal (IfTest f n fs) g = omega arith
-use-goal (WhileTest f n fs) g = omega arith
-use-goal (DoTest f n s fs) g = omega arith
-use-goal (ForStart f n fs) g = omega arith
-use-goal (ForTest f n s fs) g = omega arith
-use-goal (ForNext f n s t fs) g = omega arith
-use-goal (Return f n fs) g = omega arith
+pub use-low : (u : Use) → use_level u ≤ 2
+use-low (Length h ds) = omega arith
+use-low (Item t is) = omega arith
+use-low (Statement f n fs) = omega arith
+use-low (IfTest f n fs) = omega arith
+use-low (WhileTest f n fs) = omega arith
+use-low (DoTest f n s fs) = omega arith
+use-low (ForStart f n fs) = omega arith
+use-low (ForTest f n s fs) = omega arith
+use-low (ForNext f n s t fs) = omega arith
+use-low (Return f n fs) = omega arith
 
 -- what a whole expression spells
 pub record IsRead (level : ℕ) (s : reader.State) (e : ExprTree) : Type 0 where
@@ -184,7 +184,7 @@ finish-read level s e ok h = let n : None ≡ Some e = h in cc
 
 read-good : (m : Mark) (k : TokenKind) (u : Use) (s : reader.State) → IsOfSource k → UseOk u → expr.StateOk (use_level u) s
     → Good (use_spell u ++ expr.state_spell s) k (read m k u s)
-read-good m k u s t ok v = go (reader.step (use_level u) m k s) (step-good (use_level u) (use-goal u) m k s t v)
+read-good m k u s t ok v = go (reader.step (use_level u) m k s) (step-good (use_level u) (λ _. use-low u) m k s t v)
   where
     ends : (o : Option ExprTree) → ((e : ExprTree) → o ≡ Some e → IsRead (use_level u) s e) → Good (use_spell u ++ expr.state_spell s) k (read_whole k u o)
     ends None f = tt
@@ -198,22 +198,8 @@ read-good m k u s t ok v = go (reader.step (use_level u) m k s) (step-good (use_
 optional-good : (m : Mark) (k : TokenKind) (u : Use) → IsOfSource k → UseOk u → Good (use_spell u) k (optional m k u)
 optional-good m k u t ok =
     go (used k u None) (same-good (use_spell u ++ []) (use_spell u) k (used k u None) (append-nil (use_spell u)) (used-good k u None ok tt))
-    (same-good (use_spell u ++ []) (use_spell u) k (read m k u (reader.Operand [])) (append-nil (use_spell u)) (read-good m k u (reader.Operand []) t ok (tt, low u)))
+    (same-good (use_spell u ++ []) (use_spell u) k (read m k u (reader.Operand [])) (append-nil (use_spell u)) (read-good m k u (reader.Operand []) t ok (tt, omega (arith, use-low u))))
   where
-    low : (u : Use) → use_level u ≤ 14
-    low u = omega (arith, use-low u)
-      where
-        use-low : (u : Use) → use_level u ≤ 2
-        use-low (Length h ds) = omega arith
-        use-low (Item t is) = omega arith
-        use-low (Statement f n fs) = omega arith
-        use-low (IfTest f n fs) = omega arith
-        use-low (WhileTest f n fs) = omega arith
-        use-low (DoTest f n s fs) = omega arith
-        use-low (ForStart f n fs) = omega arith
-        use-low (ForTest f n s fs) = omega arith
-        use-low (ForNext f n s t fs) = omega arith
-        use-low (Return f n fs) = omega arith
     go : (o : Option State) → Good (use_spell u) k o → Good (use_spell u) k (read m k u (reader.Operand [])) → Good (use_spell u) k (optional_to m k u o)
     go (Some s) g h = g
     go None g h = h

@@ -51,7 +51,7 @@ may-declare items [] = tt
 may-declare items (FileTree.Function n name a ps ∷ xs) = (tt, may-declare items xs)
 may-declare items (FileTree.Object o ∷ xs) = (tt, may-declare items xs)
 
-length-function : (n : ℕ) (name : List ℕ) (ps : ParamsTree) → length (spell_function n name ps) ≡ n + width_params ps + 3
+pub length-function : (n : ℕ) (name : List ℕ) (ps : ParamsTree) → length (spell_function n name ps) ≡ n + width_params ps + 3
 length-function n name ps =
     let tail = kind.Sign sign.OpenParen ∷ (spell_params ps ++ kind.Sign sign.CloseParen ∷ []) in
     omega (arith, length-append (stars n) (kind.Name name ∷ tail), length-stars n, length-append (spell_params ps) (kind.Sign sign.CloseParen ∷ []))
