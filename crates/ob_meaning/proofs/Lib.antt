@@ -23,3 +23,4 @@ pub mod TypedAccesses
 pub mod TypedPointers
 pub mod TypedExpressions
 pub mod TypedStatements
+pub mod TypedCalls

@@ -1,5 +1,6 @@
 ghost use Rattle.ob_meaning.specs.World.{vanish, kept, unlimited};
 ghost use Rattle.ob_meaning.specs.ExampleRuns.{OverrunReads, StrayStoreVanishes, StrayStoreIsKept, NeighbourIsUntouched, NumberAtNull, IllAlignedVanishes, LastGranule, PointerIsLost, DropChangesAnswer, UnlimitedEndsAtDrop, FirstDropIsTold, RecentUseKeeps, PointerComesBack, PointersAreEqualByObject, PointersAreCounted, OffsetsAreBounded, FreedPlaceIsTaken, HeapIsFull, UseAfterFreeEnds, OtherFreesAreTold, DivisionByZeroEnds, StepsRunOut, StackIsBounded, InputEnds};
+ghost use Rattle.ob_meaning.specs.ValueTypes.{CallsHaveTypes, RunsBeginTyped, ValuesHaveTypes};
 ghost use Rattle.ob_meaning.specs.TypeLaws.{ScalarsAreCounted};
 ghost use Rattle.ob_meaning.specs.MemoryLaws.{LoadsInsideTakeNone, RunsKeepObjectsWhole, OtherGranulesStay, OtherOutsidesStay, SizesAndLivesStay, AllElseStays, StoredIsLoaded, StrayStoresVanish, StrayLoadsTakeOne, UnsetByteTakesOne, SetBytesTakeNone, DeadAreNotAlive, GranulesOfTheDeadLeave, GranulesOfTheDeadDoNotCount};
 ghost use Rattle.ob_meaning.specs.FirstDrop.{RunsAreAlikeToTheFirstDrop, RunsOfSettingsAreAlike, VanishingRunsDropNothing};
@@ -149,4 +150,13 @@ pub fn law_deaths()
 /// The scalars that a structure assignment copies are as many as the structure's layout counts.
 pub fn law_scalars()
     ensures { ScalarsAreCounted }
+{}
+
+/// In a typed program an expression of an integer type gives a number of that type, and one of a pointer
+/// type gives null or a pointer; so do calls. A run begins in a world of which this holds, where its input
+/// is bytes.
+pub fn law_values()
+    ensures expressions { ValuesHaveTypes }
+    ensures calls { CallsHaveTypes }
+    ensures runs { RunsBeginTyped }
 {}
