@@ -24,3 +24,4 @@ pub mod TypedPointers
 pub mod TypedExpressions
 pub mod TypedStatements
 pub mod TypedCalls
+pub mod Agreement

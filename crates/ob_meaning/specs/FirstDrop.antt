@@ -34,3 +34,11 @@ abbrev pub RunsOfSettingsAreAlike : Type 0
 RunsOfSettingsAreAlike =
     (program : TypedProgram) (settings : RunSettings) (cycle : List ℕ) (place : ℕ) (input : List ℕ) (input_end : InputEnd) (steps : ℕ) →
     GoesOnFrom (meaning program (wide_rule_of settings) settings cycle place input input_end steps).finish (meaning program (wide_rule_of settings) settings cycle place input input_end steps) (meaning program (rule_of settings) settings cycle place input input_end steps) (meaning_end program (rule_of settings) settings cycle place input input_end steps)
+
+-- a machine's run that agrees with the bounded run agrees with the unlimited one
+abbrev pub AgreementGoesThrough : Type 0
+AgreementGoesThrough =
+    (machine_run unlimited_run bounded_run : Outcome) (bounded_end : World) →
+    Agrees machine_run bounded_run →
+    GoesOnFrom unlimited_run.finish unlimited_run bounded_run bounded_end →
+    Agrees machine_run unlimited_run

@@ -3,7 +3,7 @@ ghost use Rattle.ob_meaning.specs.ExampleRuns.{OverrunReads, StrayStoreVanishes,
 ghost use Rattle.ob_meaning.specs.ValueTypes.{CallsHaveTypes, RunsBeginTyped, ValuesHaveTypes};
 ghost use Rattle.ob_meaning.specs.TypeLaws.{ScalarsAreCounted};
 ghost use Rattle.ob_meaning.specs.MemoryLaws.{LoadsInsideTakeNone, RunsKeepObjectsWhole, OtherGranulesStay, OtherOutsidesStay, SizesAndLivesStay, AllElseStays, StoredIsLoaded, StrayStoresVanish, StrayLoadsTakeOne, UnsetByteTakesOne, SetBytesTakeNone, DeadAreNotAlive, GranulesOfTheDeadLeave, GranulesOfTheDeadDoNotCount};
-ghost use Rattle.ob_meaning.specs.FirstDrop.{RunsAreAlikeToTheFirstDrop, RunsOfSettingsAreAlike, VanishingRunsDropNothing};
+ghost use Rattle.ob_meaning.specs.FirstDrop.{AgreementGoesThrough, RunsAreAlikeToTheFirstDrop, RunsOfSettingsAreAlike, VanishingRunsDropNothing};
 ghost use Rattle.ob_meaning.specs.Depth.{BoundOnCallsIsFree, BoundOnTurnsIsFree};
 ghost use Rattle.ob_meaning.specs.LineExample.{LineIsCut, LineIsWhole};
 ghost use Rattle.ob_meaning.specs.ControlRuns.{LeastSteps, LoopsTakeSteps, ChoicesSkip, CallsRecur, DanglingPointerEnds, ExitEnds, EndsGiveZeroOrNull, StaticsHoldPointers, ArraysAreInitialised, StepsGiveOldOrNew, PointersWalk, StructuresAreCopied, ScalarsGoAstray};
@@ -98,11 +98,12 @@ pub fn law_line()
 /// run with a bounded list of stray granules is the same and drops none. Where the unlimited run ends
 /// because a store would keep one granule too many, the bounded run begins as it does, and that store is
 /// the first that drops. Where stray accesses vanish, nothing is dropped. So each run goes as the one of
-/// its mode where objects are unlimited.
+/// its mode where objects are unlimited, and what agrees with the one agrees with the other.
 pub fn law_first_drop()
     ensures bounded { RunsAreAlikeToTheFirstDrop }
     ensures vanishing { VanishingRunsDropNothing }
     ensures settings { RunsOfSettingsAreAlike }
+    ensures machine { AgreementGoesThrough }
 {}
 
 /// Calls and loop turns have a meaning for each bound on how many of them stand one in another. A bound of
