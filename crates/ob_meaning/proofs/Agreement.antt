@@ -2,7 +2,6 @@
 use Rattle.std.proofs.Common.{◌≡◌, refl, sym, subst}
 use Rattle.ob_model.specs.Endings.{Agrees, AgreesTo, Begins, Finish, Outcome, plain, dead, dropped}
 use Rattle.ob_meaning.specs.FirstDrop.{AgreementGoesThrough, GoesOnFrom}
-use Rattle.ob_meaning.specs.World.{World}
 use Rattle.ob_meaning.proofs.Alike.{begins_self, begins_then}
 
 abbrev BothBegin : Outcome → Outcome → Type 0

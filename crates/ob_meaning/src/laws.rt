@@ -1,5 +1,5 @@
 ghost use Rattle.ob_meaning.specs.World.{vanish, kept, unlimited};
-ghost use Rattle.ob_meaning.specs.ExampleRuns.{OverrunReads, StrayStoreVanishes, StrayStoreIsKept, NeighbourIsUntouched, NumberAtNull, IllAlignedVanishes, LastGranule, PointerIsLost, DropChangesAnswer, UnlimitedEndsAtDrop, FirstDropIsTold, RecentUseKeeps, PointerComesBack, PointersAreEqualByObject, PointersAreCounted, OffsetsAreBounded, FreedPlaceIsTaken, HeapIsFull, UseAfterFreeEnds, OtherFreesAreTold, DivisionByZeroEnds, StepsRunOut, StackIsBounded, InputEnds};
+ghost use Rattle.ob_meaning.specs.ExampleRuns.{GranulesBefore, UnsetByteIsMade, PointerIsKeptOutside, OverrunReads, StrayStoreVanishes, StrayStoreIsKept, NeighbourIsUntouched, NumberAtNull, IllAlignedVanishes, LastGranule, PointerIsLost, DropChangesAnswer, UnlimitedEndsAtDrop, FirstDropIsTold, RecentUseKeeps, PointerComesBack, PointersAreEqualByObject, PointersAreCounted, OffsetsAreBounded, FreedPlaceIsTaken, HeapIsFull, UseAfterFreeEnds, OtherFreesAreTold, DivisionByZeroEnds, StepsRunOut, StackIsBounded, InputEnds};
 ghost use Rattle.ob_meaning.specs.ValueTypes.{CallsHaveTypes, RunsBeginTyped, ValuesHaveTypes};
 ghost use Rattle.ob_meaning.specs.TypeLaws.{ScalarsAreCounted};
 ghost use Rattle.ob_meaning.specs.MemoryLaws.{LoadsInsideTakeNone, RunsKeepObjectsWhole, OtherGranulesStay, OtherOutsidesStay, SizesAndLivesStay, AllElseStays, StoredIsLoaded, StrayStoresVanish, StrayLoadsTakeOne, UnsetByteTakesOne, SetBytesTakeNone, DeadAreNotAlive, GranulesOfTheDeadLeave, GranulesOfTheDeadDoNotCount};
@@ -38,6 +38,16 @@ pub fn law_drops()
     ensures unlimited { UnlimitedEndsAtDrop }
     ensures first { FirstDropIsTold }
     ensures recent { RecentUseKeeps }
+{}
+
+/// Runs of small programs with granules outside of objects: before them, partly stored, and with pointers.
+pub fn law_outside()
+    ensures before { GranulesBefore (kept 2) }
+    ensures before_unlimited { GranulesBefore (unlimited 2) }
+    ensures unset { UnsetByteIsMade (kept 2) }
+    ensures unset_unlimited { UnsetByteIsMade (unlimited 2) }
+    ensures pointer { PointerIsKeptOutside (kept 2) }
+    ensures pointer_unlimited { PointerIsKeptOutside (unlimited 2) }
 {}
 
 /// Runs of small programs whose pointers leave their objects.
