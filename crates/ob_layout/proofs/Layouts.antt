@@ -1,10 +1,11 @@
 -- Layouts that are counted up to a cap, step by step, are those of the definition up to the cap.
-use Rattle.std.proofs.Common.{◌≡◌, true, ℕ, suc, ◌+◌, ◌<◌, ◌≤◌, Option, Some, None, option_map, List, [], ◌∷◌, length, drop, map, refl, sym, ap, arith, ◌∙◌, slice_index_or, get_or}
-use Rattle.std.specs.Prelude.{option_and_then, min, if◌then◌else◌}
+use Rattle.std.proofs.Common.{◌≡◌, false, ⊎_elim, true, ℕ, suc, ◌+◌, ◌<◌, ◌≤◌, Option, Some, None, option_map, List, [], ◌∷◌, length, drop, map, refl, sym, ap, arith, ◌∙◌, slice_index_or, get_or}
+use Rattle.std.specs.Option.{is_some}
+use Rattle.std.specs.Prelude.{nat_le, option_and_then, min, if◌then◌else◌}
 use Rattle.std.proofs.lemmas.Option.{none-some}
 use Rattle.std.proofs.Math.Seq.{drop-cons}
 use Rattle.std.proofs.Common.{add-one}
-use Rattle.std.proofs.lemmas.Bool.{leb-true}
+use Rattle.std.proofs.lemmas.Bool.{leb-true, cases_lt, false_from_ne_true}
 use Rattle.std.specs.List.{All}
 use Rattle.std.proofs.Common.{subst}
 use Rattle.std.proofs.lemmas.List.{length-map, get_or-map}
@@ -141,3 +142,28 @@ fits_known (Some l) h = refl
 pub fits_within : (o : Option Layout) → fits_object o ≡ true → (laid o).size ≤ most_bytes
 fits_within None h = omega arith
 fits_within (Some l) h = leb-true l.size most_bytes h
+
+not_below : (n : ℕ) → cap ≤ n → nat_le n most_bytes ≡ false
+not_below n more = false_from_ne_true (nat_le n most_bytes) (λ h. let k = leb-true n most_bytes h in omega arith)
+
+same_fit : (n : ℕ) → nat_le (min n cap) most_bytes ≡ nat_le n most_bytes
+same_fit n = ⊎_elim
+    (λ (less : n < cap). let own : min n cap ≡ n = omega arith in ap (λ m. nat_le m most_bytes) own)
+    (λ (more : cap ≤ n). let capped_is : min n cap ≡ cap = omega arith in ap (λ m. nat_le m most_bytes) capped_is ∙ sym (not_below n more))
+    (cases_lt n cap)
+
+-- what a capped layout tells of a type
+map_is_some : {A B : Type 0} (f : A → B) (o : Option A) → is_some (option_map f o) ≡ is_some o
+map_is_some f None = refl
+map_is_some f (Some x) = refl
+
+pub same_some : {A : Type 0} (f : A → Layout) (r : Option A) (o : Option Layout) → option_map f r ≡ option_map capped o → is_some r ≡ is_some o
+same_some f r o h = sym (map_is_some f r) ∙ ap is_some h ∙ map_is_some capped o
+
+pub fits_some : (o : Option Layout) (l : Layout) → Some l ≡ option_map capped o → nat_le l.size most_bytes ≡ fits_object o
+fits_some None l h = absurd (none-some l (sym h))
+fits_some (Some m) l h = ap (λ (x : Layout). nat_le x.size most_bytes) (ap laid h) ∙ same_fit m.size
+
+pub fits_none : (o : Option Layout) → None ≡ option_map capped o → fits_object o ≡ false
+fits_none None h = refl
+fits_none (Some m) h = absurd (none-some (capped m) h)

@@ -6,7 +6,7 @@
 
 pub use frames::allowance;
 pub use members::member;
-pub use sizes::{align, leaves, size};
+pub use sizes::{align, has_size, is_complete, leaves, size};
 
 mod counted;
 mod frames;

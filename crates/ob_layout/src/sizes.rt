@@ -2,7 +2,7 @@ ghost use Rattle.std.specs.Prelude.{◌≡◌, ◌≤◌, IsFalse, option_map};
 ghost use Rattle.ob_words.specs.Types.{width};
 ghost use Rattle.ob_tree.specs.Types.{PlainType};
 ghost use Rattle.ob_tree.specs.TypeView.{plain_type, plain_struct, plain_structs};
-ghost use Rattle.ob_tree.specs.Sizes.{IsComplete, align, scalars, size, laid, layout, int_size, members_layout, no_layout, struct_layout, type_layout};
+ghost use Rattle.ob_tree.specs.Sizes.{IsComplete, align, scalars, size, has_size, is_complete, laid, layout, int_size, members_layout, no_layout, struct_layout, type_layout};
 ghost use Rattle.ob_layout.specs.Capped.{capped, shown};
 ghost use Rattle.ob_layout.specs.Spread.{innermost, is_array, spread};
 
@@ -35,6 +35,24 @@ pub fn leaves(s: &Structs, t: &CType) -> u64
     ensures { result ≡ scalars (plain_structs s.now) (plain_type t.now) }
 {
     complete(s, t).scalars
+}
+
+/// Whether type `t` has a size: it isn't `void`, each structure that it holds has its members, and none
+/// of these holds itself (C99 6.2.5).
+pub fn has_size(s: &Structs, t: &CType) -> bool
+    ensures { result ≡ has_size (plain_structs s.now) (plain_type t.now) }
+{
+    type_layout(s, s.rows.len(), t).is_some()
+}
+
+/// Whether type `t` is complete: it has a size, of at most 4,194,304 bytes.
+pub fn is_complete(s: &Structs, t: &CType) -> bool
+    ensures { result ≡ is_complete (plain_structs s.now) (plain_type t.now) }
+{
+    match type_layout(s, s.rows.len(), t) {
+        Some(l) => l.size <= 4_194_304,
+        None => false,
+    }
 }
 
 fn complete(s: &Structs, t: &CType) -> Counted

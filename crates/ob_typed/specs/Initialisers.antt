@@ -1,6 +1,6 @@
 -- Initialisers (C99 6.7.8). Each item is judged when its expression was, before the next item; a list's own
 -- faults come after all its items. Items past the end are walked alone.
-use Rattle.std.specs.Prelude.{ℕ, zero, suc, ◌+◌, Bool, true, false, nat_eq, nat_le, if◌then◌else◌, Option, Some, None, Ok, List, [], ◌∷◌, ◌++◌, length}
+use Rattle.std.specs.Prelude.{ℕ, zero, suc, ◌+◌, Bool, true, false, nat_eq, nat_le, if◌then◌else◌, Option, Some, None, Ok, List, [], ◌∷◌, ◌++◌, length, map}
 use Rattle.ob_tree.specs.declared.faults.TypeKind.TheVariants as kind
 use Rattle.ob_tree.specs.Trees.{Mark, ExprTree, InitTree, InitTrees}
 use Rattle.ob_tree.specs.Trees.{ExprTree as tree, InitTree as source, InitTrees as sources}
@@ -19,16 +19,19 @@ use Rattle.ob_typed.specs.Marks.{mark_of, first_of_init}
 use Rattle.ob_typed.specs.Strings.{joined_bytes}
 use Rattle.ob_typed.specs.Expressions.{check}
 
+abbrev pub static_types : List TypedObject → List PlainType
+static_types os = map (λ o. o.ty) os
+
 -- ---- an expression for a part of a type; where fixed, the object is static and needs a constant
 
-abbrev pub constant_item : PlainStructs → List TypedObject → (fixed : Bool) → Mark → TypedExpr → Answer TypedInit
-constant_item structs statics false m e = Ok (init.Value e)
-constant_item structs statics true m e = if is_static_value structs statics e then Ok (init.Value e) else fault kind.Constant m.first
+abbrev pub constant_item : PlainStructs → (types : List PlainType) → (fixed : Bool) → Mark → TypedExpr → Answer TypedInit
+constant_item structs types false m e = Ok (init.Value e)
+constant_item structs types true m e = if is_static_value structs types e then Ok (init.Value e) else fault kind.Constant m.first
 
-abbrev pub scalar_item : PlainStructs → List TypedObject → (fixed : Bool) → PlainType → Mark → Checked → Answer TypedInit
-scalar_item structs statics fixed t m x =
+abbrev pub scalar_item : PlainStructs → (types : List PlainType) → (fixed : Bool) → PlainType → Mark → Checked → Answer TypedInit
+scalar_item structs types fixed t m x =
     if is_unusable (value_type (value x)) then fault kind.Operand m.at
-    else (if fits x t then constant_item structs statics fixed m (as_type (value x) t) else fault kind.Assign m.first)
+    else (if fits x t then constant_item structs types fixed m (as_type (value x) t) else fault kind.Assign m.first)
 
 -- an array needs a list
 abbrev pub array_item : Mark → Checked → Answer TypedInit
@@ -40,17 +43,17 @@ struct_item false n m (checked.Place line (type.Struct k) l) =
     if nat_eq n k then Ok (init.Copy (place.Place line (type.Struct k) l)) else fault kind.Assign m.first
 struct_item fixed n m x = if is_unusable (value_type (value x)) then fault kind.Operand m.at else fault kind.Assign m.first
 
-abbrev pub item_rule : PlainStructs → List TypedObject → (fixed : Bool) → PlainType → Mark → Checked → Answer TypedInit
-item_rule structs statics fixed (type.Int k) m x = scalar_item structs statics fixed (type.Int k) m x
-item_rule structs statics fixed (type.Pointer t) m x = scalar_item structs statics fixed (type.Pointer t) m x
-item_rule structs statics fixed (type.Array t n) m x = array_item m x
-item_rule structs statics fixed (type.Struct n) m x = struct_item fixed n m x
-item_rule structs statics fixed type.Void m x = fault kind.Operand m.at
+abbrev pub item_rule : PlainStructs → (types : List PlainType) → (fixed : Bool) → PlainType → Mark → Checked → Answer TypedInit
+item_rule structs types fixed (type.Int k) m x = scalar_item structs types fixed (type.Int k) m x
+item_rule structs types fixed (type.Pointer t) m x = scalar_item structs types fixed (type.Pointer t) m x
+item_rule structs types fixed (type.Array t n) m x = array_item m x
+item_rule structs types fixed (type.Struct n) m x = struct_item fixed n m x
+item_rule structs types fixed type.Void m x = fault kind.Operand m.at
 
 -- a part that there isn't takes any expression
-abbrev pub part_rule : PlainStructs → List TypedObject → (fixed : Bool) → Option PlainType → Mark → Checked → Answer TypedInit
-part_rule structs statics fixed None m x = Ok (init.Value (value x))
-part_rule structs statics fixed (Some t) m x = item_rule structs statics fixed t m x
+abbrev pub part_rule : PlainStructs → (types : List PlainType) → (fixed : Bool) → Option PlainType → Mark → Checked → Answer TypedInit
+part_rule structs types fixed None m x = Ok (init.Value (value x))
+part_rule structs types fixed (Some t) m x = item_rule structs types fixed t m x
 
 -- ---- a string literal for an array of characters; its final zero is stored where there is room
 
@@ -113,7 +116,7 @@ list_rule structs (Some t) first is items = fault kind.Count first
 
 abbrev pub check_value : Env → (fixed : Bool) → Option PlainType → ExprTree → Option (List ℕ) → Known → Walk Known TypedInit
 check_value env fixed t e (Some bytes) k = by (string_rule t (mark_of e) bytes) k
-check_value env fixed t e None k = next (check env e k) (λ x k1. by (part_rule k1.structs k1.statics fixed t (mark_of e) x) k1)
+check_value env fixed t e None k = next (check env e k) (λ x k1. by (part_rule k1.structs (static_types k1.statics) fixed t (mark_of e) x) k1)
 
 abbrev mutual
   -- an initialiser of a part of this type, or past the end

@@ -1,5 +1,6 @@
 pub mod TypedTree
 pub mod TypedView
+pub mod ProgramView
 pub mod Faults
 pub mod Scopes
 pub mod TypeTests
@@ -28,3 +29,4 @@ pub mod FaultExamples
 pub mod MoreFaultExamples
 pub mod SourceExamples
 pub mod TypedExamples
+pub mod WellTyped

@@ -1,5 +1,5 @@
 -- The typed trees of the programs that are examples.
-use Rattle.std.specs.Prelude.{ℕ, ℤ, pos, false, true, Some, [], ◌∷◌, List, None}
+use Rattle.std.specs.Prelude.{ℕ, pos, false, true, Some, [], ◌∷◌}
 use Rattle.ob_words.specs.declared.types.IntType.{IntType}
 use Rattle.ob_words.specs.declared.types.IntType.TheVariants.{Char, UChar, Int, UInt, Long}
 use Rattle.ob_words.specs.declared.types.BinOp.TheVariants.{Add, Sub}
@@ -55,19 +55,19 @@ typed_recursion = record {
   structs = [];
   statics = [];
   functions = record {
-      name = 102 ∷ [];
-      result = int;
-      params = 1;
-      locals = int ∷ [];
-      names = record { name = 110 ∷ []; line = 1 } ∷ [];
-      nodes = 6;
-      weight = 88;
-      body = body_two
+    name = 102 ∷ [];
+    result = int;
+    params = 1;
+    locals = int ∷ [];
+    names = record { name = 110 ∷ []; line = 1 } ∷ [];
+    nodes = 6;
+    weight = 88;
+    body = body_two
         (stmt.Expr (of 1 Int (node.CallBuiltin builtin.PutChar (one (number 1 Int 46)))))
         (stmt.Return (Some (of 1 Int (node.Call 0 (one (of 1 Int (node.Arith Add Int (read 1 int (lean.Local 0)) (number 1 Int 1))))))));
-    }
-    ∷ main_function 2 40 (body_one (stmt.Return (Some (of 2 Int (node.Call 0 (one (number 2 Int 0)))))))
-    ∷ [];
+  }
+      ∷ main_function 2 40 (body_one (stmt.Return (Some (of 2 Int (node.Call 0 (one (number 2 Int 0)))))))
+      ∷ [];
   main = 1;
 }
 
@@ -82,7 +82,7 @@ typed_elements = record {
   functions = main_function 8 96 (body_two
       (stmt.Expr (of 2 Char (node.Assign (place.Place 2 (type.Int Char) (element 16)) (of 2 Char (node.Convert Char (number 2 Int 88))))))
       (stmt.Return (Some (of 2 Int (node.Convert Int (read 2 (type.Int Char) (element 0)))))))
-    ∷ [];
+      ∷ [];
   main = 0;
 }
 
@@ -93,19 +93,19 @@ abbrev pub typed_strings : TypedProgram
 typed_strings = record {
   structs = record { complete = true; members = record { name = 99 ∷ []; ty = type.Int Char } ∷ record { name = 112 ∷ []; ty = char_pointer } ∷ [] } ∷ [];
   statics = record {
-      name = record { name = 120 ∷ []; line = 1 };
-      ty = type.Struct 0;
-      image = record { bytes = 65 ∷ []; pointers = record { at = 8; target = 1; offset = 0 } ∷ [] };
-    }
-    ∷ record {
-      name = record { name = []; line = 1 };
-      ty = type.Array (type.Int Char) 3;
-      image = record { bytes = 97 ∷ 98 ∷ []; pointers = [] };
-    }
-    ∷ [];
+    name = record { name = 120 ∷ []; line = 1 };
+    ty = type.Struct 0;
+    image = record { bytes = 65 ∷ []; pointers = record { at = 8; target = 1; offset = 0 } ∷ [] };
+  }
+      ∷ record {
+        name = record { name = []; line = 1 };
+        ty = type.Array (type.Int Char) 3;
+        image = record { bytes = 97 ∷ 98 ∷ []; pointers = [] };
+      }
+      ∷ [];
   functions = main_function 4 56 (body_one (stmt.Return (Some (of 2 Int (node.Convert Int
       (read 2 (type.Int Char) (lean.Slide (lean.Value (read 2 char_pointer (lean.Member (lean.Static 0) 8))) 1 false false (number 2 Int 1))))))))
-    ∷ [];
+      ∷ [];
   main = 0;
 }
 
@@ -117,22 +117,22 @@ typed_lines = record {
   structs = [];
   statics = [];
   functions = record {
-      name = 109 ∷ 97 ∷ 105 ∷ 110 ∷ [];
-      result = int;
-      params = 0;
-      locals = int_pointer ∷ [];
-      names = record { name = 112 ∷ []; line = 2 } ∷ [];
-      nodes = 8;
-      weight = 112;
-      body = stmt.Block (stmts.Stmt
+    name = 109 ∷ 97 ∷ 105 ∷ 110 ∷ [];
+    result = int;
+    params = 0;
+    locals = int_pointer ∷ [];
+    names = record { name = 112 ∷ []; line = 2 } ∷ [];
+    nodes = 8;
+    weight = 112;
+    body = stmt.Block (stmts.Stmt
         (stmt.Init 0 (init.Value (expr.Typed 2 int_pointer node.Null)))
         (stmts.Stmt
         (stmt.Expr (of 3 Int (node.Assign (place.Place 3 int (lean.Value (read 4 int_pointer (lean.Local 0)))) (number 4 Int 1))))
         (stmts.Stmt
         (stmt.Return (Some (read 5 int (lean.Value (read 6 int_pointer (lean.Local 0))))))
         stmts.NoStmts)));
-    }
-    ∷ [];
+  }
+      ∷ [];
   main = 0;
 }
 
@@ -147,24 +147,24 @@ typed_conversions = record {
   structs = [];
   statics = [];
   functions = record {
-      name = 109 ∷ 97 ∷ 105 ∷ 110 ∷ [];
-      result = int;
-      params = 0;
-      locals = byte ∷ long ∷ [];
-      names = record { name = 99 ∷ []; line = 2 } ∷ record { name = 108 ∷ []; line = 2 } ∷ [];
-      nodes = 13;
-      weight = 160;
-      body = stmt.Block (stmts.Stmt
+    name = 109 ∷ 97 ∷ 105 ∷ 110 ∷ [];
+    result = int;
+    params = 0;
+    locals = byte ∷ long ∷ [];
+    names = record { name = 99 ∷ []; line = 2 } ∷ record { name = 108 ∷ []; line = 2 } ∷ [];
+    nodes = 13;
+    weight = 160;
+    body = stmt.Block (stmts.Stmt
         (stmt.Expr (of 3 UChar (node.Update Add Int false (place.Place 3 byte (lean.Local 0)) (number 3 Int 1))))
         (stmts.Stmt
         (stmt.Expr (of 4 Long (node.Assign (place.Place 4 long (lean.Local 1)) (of 4 Long (node.Convert Long (of 4 UInt (node.Cond
-          (read 4 byte (lean.Local 0))
-          (of 4 UInt (node.Convert UInt (of 4 Int (node.Arith Sub Int (number 4 Int 0) (number 4 Int 1)))))
-          (number 4 UInt 2))))))))
+        (read 4 byte (lean.Local 0))
+        (of 4 UInt (node.Convert UInt (of 4 Int (node.Arith Sub Int (number 4 Int 0) (number 4 Int 1)))))
+        (number 4 UInt 2))))))))
         (stmts.Stmt
         (stmt.Return (Some (of 5 Int (node.Compare Lt (of 5 Long (node.Convert Long (read 5 byte (lean.Local 0)))) (read 5 long (lean.Local 1))))))
         stmts.NoStmts)));
-    }
-    ∷ [];
+  }
+      ∷ [];
   main = 0;
 }

@@ -1,6 +1,8 @@
 -- What the typed trees of the program are without their boxes and vectors.
-use Rattle.std.specs.Prelude.{ℕ, Option, Some, None, map}
+use Rattle.std.specs.Prelude.{ℕ, Option, Some, None, map, Vec}
+use Rattle.std.specs.declared.alloc.Global.{Global}
 use Rattle.ob_tree.specs.declared.types.CType.{CType}
+use Rattle.ob_tree.specs.declared.types.Structs.{Structs}
 use Rattle.ob_tree.specs.TypeView.{plain_type, plain_types, plain_structs}
 use Rattle.ob_typed.specs.declared.expressions.TExpr.{TExpr}
 use Rattle.ob_typed.specs.declared.expressions.TPlace.{TPlace}
@@ -15,7 +17,6 @@ use Rattle.ob_typed.specs.declared.statements.TStmt.{TStmt, Row_of-TStmt, end_of
 use Rattle.ob_typed.specs.declared.statics.TStatic.{TStatic}
 use Rattle.ob_typed.specs.declared.statics.StaticImage.{StaticImage}
 use Rattle.ob_typed.specs.declared.program.TFunction.{TFunction}
-use Rattle.ob_typed.specs.declared.program.Typed.{Typed}
 use Rattle.ob_typed.specs.TypedTree.{TypedExpr, TypedPlace, TypedLean, TypedNode, TypedExprs, TypedInit, TypedInits, TypedStmt, TypedStmts, TypedFunction, PlainImage, TypedObject, TypedProgram}
 
 abbrev pub typed : (line : ℕ) → CType → TypedNode → TypedExpr
@@ -121,10 +122,11 @@ plain_image i = record { bytes = i.bytes; pointers = i.pointers.items }
 abbrev pub typed_object : TStatic → TypedObject
 typed_object o = record { name = o.name; ty = plain_type o.ty; image = plain_image o.image }
 
-abbrev pub typed_program : Typed → TypedProgram
-typed_program t = record {
-  structs = plain_structs t.structs;
-  statics = map typed_object t.statics.items;
-  functions = map typed_function t.functions.items;
-  main = t.main;
+-- a program from its parts
+abbrev pub typed_parts : Structs → Vec TStatic Global → Vec TFunction Global → ℕ → TypedProgram
+typed_parts structs statics functions main = record {
+  structs = plain_structs structs;
+  statics = map typed_object statics.items;
+  functions = map typed_function functions.items;
+  main = main;
 }

@@ -8,6 +8,7 @@ use Rattle.ob_tree.specs.Trees.{SpecTree}
 use Rattle.ob_tree.specs.Trees.{ObjTree as declarator}
 use Rattle.ob_tree.specs.Programs.{BlockTrees, FileTree, ItemTree, ParamsTree, ProgramTree, StmtTree}
 use Rattle.ob_tree.specs.Programs.{BlockTrees as items, FileTree as file, ItemTree as item, StmtTree as source}
+use Rattle.ob_tree.specs.ProgramValid.{ValidProgram}
 use Rattle.ob_tree.specs.Types.{PlainType}
 use Rattle.ob_tree.specs.Types.{PlainType as type}
 use Rattle.ob_typed.specs.declared.names.Builtin.{Builtin}
@@ -241,3 +242,7 @@ Types p t = typing p ≡ Ok t
 -- f is the first fault of p
 abbrev pub FirstTypeFault : ProgramTree → Fault → Type 0
 FirstTypeFault p f = typing p ≡ Err f
+
+-- t is the typed tree of a program of the grammar
+abbrev pub WellTyped : TypedProgram → Type 0
+WellTyped t = ∥ ((p : ProgramTree) × ValidProgram p × Types p t) ∥₁

@@ -1,3 +1,6 @@
+ghost use Rattle.ob_typed.specs.TypedView.{typed_parts};
+ghost use Rattle.ob_typed.specs.Typing.{WellTyped};
+
 use crate::names::VarName;
 use crate::statements::TStmt;
 use crate::statics::TStatic;
@@ -19,7 +22,7 @@ pub struct TFunction {
     pub body: TStmt,
 }
 
-/// A typed program: its structures, its static objects in the order of their tokens, its functions in
+/// A typed program, which is the typed tree of some program of the grammar: its structures, its static objects in the order of their tokens, its functions in
 /// the order of their bodies, and the number of the function `main` among these, counted from 0.
 #[derive(Drop)]
 pub struct Typed {
@@ -27,4 +30,5 @@ pub struct Typed {
     pub statics: Vec<TStatic>,
     pub functions: Vec<TFunction>,
     pub main: u32,
+    ghost well_typed: { WellTyped (typed_parts structs statics functions main) },
 }

@@ -1,0 +1,196 @@
+ghost use Rattle.std.specs.Prelude.{◌≡◌, Some, None, IfSome, IsFalse, option_map};
+ghost use Rattle.ob_words.specs.declared.types.IntType.TheVariants as kinds;
+ghost use Rattle.ob_words.specs.Types.{IsNumber};
+ghost use Rattle.ob_words.specs.Conversion.{convert};
+ghost use Rattle.ob_words.specs.Operators.{binary, shifts};
+ghost use Rattle.ob_tree.specs.TypeView.{plain_type};
+ghost use Rattle.ob_typed.specs.ConstantValues.{and_value, arith_value, compare_value, cond_value, constant, evaluated, is_constant_form, is_true, or_value, quotient, truth, truth_value};
+ghost use Rattle.ob_typed.specs.TypedView.{typed_expr};
+ghost use Rattle.ob_typed.specs.WellTyped.{IsNumberOf, IsWellTyped};
+ghost use Rattle.ob_consts.specs.Refusal.{answer};
+
+use ob_typed::{TExpr, TNode};
+use ob_words::laws::law_result;
+use ob_words::{BinOp, IntType, Relation, binary, compare, convert};
+
+/// The one refusal of [`constant`].
+#[derive(Clone, Copy, Debug, PartialEq, Eq)]
+pub struct NotConstant;
+
+/// The value of an integer constant expression (C99 6.6), a number of its type. Refused exactly where
+/// `e` is none, or divides by zero in a part that is evaluated. `e` is well typed.
+pub fn constant(e: &TExpr) -> Result<i128, NotConstant>
+    requires { IsWellTyped (typed_expr e.now) }
+    ensures { result ≡ answer (constant (typed_expr e.now)) }
+{
+    if !is_constant_form(e) {
+        return Err(NotConstant);
+    }
+    match evaluated(e) {
+        Some(z) => Ok(z),
+        None => Err(NotConstant),
+    }
+}
+
+/// Whether an expression consists of what an integer constant expression may have.
+fn is_constant_form(e: &TExpr) -> bool
+    ensures { result ≡ is_constant_form (typed_expr e.now) }
+{
+    match &e.node {
+        TNode::Num(_) => true,
+        TNode::Convert(_, a) => is_constant_form(a),
+        TNode::Arith(_, _, a, b) => is_constant_form(a) && is_constant_form(b),
+        TNode::Compare(_, a, b) => is_constant_form(a) && is_constant_form(b),
+        TNode::And(a, b) => is_constant_form(a) && is_constant_form(b),
+        TNode::Or(a, b) => is_constant_form(a) && is_constant_form(b),
+        TNode::Cond(c, a, b) => is_constant_form(c) && is_constant_form(a) && is_constant_form(b),
+        _ => false,
+    }
+}
+
+/// The value of an expression of that form, `None` where it divides by zero.
+fn evaluated(e: &TExpr) -> Option<i128>
+    requires { IsWellTyped (typed_expr e.now) }
+    ensures is { result ≡ evaluated (typed_expr e.now) }
+    ensures number { IfSome result (λ z. IsNumberOf (plain_type e.now.ty) z) }
+{
+    match &e.node {
+        TNode::Num(z) => Some(*z),
+        TNode::Convert(kind, a) => converted(*kind, evaluated(a)),
+        TNode::Arith(op, kind, a, b) => {
+            let x = evaluated(a);
+            let y = evaluated(b);
+            arithmetic(*op, *kind, x, y)
+        }
+        TNode::Compare(relation, a, b) => {
+            let x = evaluated(a);
+            let y = evaluated(b);
+            compared(*relation, x, y)
+        }
+        TNode::And(a, b) => {
+            let x = evaluated(a);
+            let y = evaluated(b);
+            both(x, y)
+        }
+        TNode::Or(a, b) => {
+            let x = evaluated(a);
+            let y = evaluated(b);
+            either(x, y)
+        }
+        TNode::Cond(c, a, b) => {
+            let z = evaluated(c);
+            let x = evaluated(a);
+            let y = evaluated(b);
+            chosen(z, x, y)
+        }
+        _ => None,
+    }
+}
+
+fn converted(kind: IntType, x: Option<i128>) -> Option<i128>
+    ensures is { result ≡ option_map (convert kind) x }
+    ensures number { IfSome result (IsNumber kind) }
+{
+    match x {
+        Some(z) => Some(convert(kind, z)),
+        None => None,
+    }
+}
+
+fn arithmetic(op: BinOp, kind: IntType, x: Option<i128>, y: Option<i128>) -> Option<i128>
+    requires left { IfSome x (IsNumber kind) }
+    requires right { IsFalse (shifts op) → IfSome y (IsNumber kind) }
+    ensures is { result ≡ arith_value op kind x y }
+    ensures number { IfSome result (IsNumber kind) }
+{
+    match (x, y) {
+        (Some(a), Some(b)) => quotient(op, kind, a, b),
+        _ => None,
+    }
+}
+
+fn quotient(op: BinOp, kind: IntType, a: i128, b: i128) -> Option<i128>
+    requires left { IsNumber kind a }
+    requires right { IsFalse (shifts op) → IsNumber kind b }
+    ensures is { result ≡ quotient (binary op kind a b) }
+    ensures number { IfSome result (IsNumber kind) }
+{
+    law_result();
+    match binary(op, kind, a, b) {
+        Ok(z) => Some(z),
+        Err(_) => None,
+    }
+}
+
+fn truth(b: bool) -> i128
+    ensures is { result ≡ truth b }
+    ensures number { IsNumber kinds.Int result }
+{
+    if b { 1 } else { 0 }
+}
+
+fn compared(relation: Relation, x: Option<i128>, y: Option<i128>) -> Option<i128>
+    ensures is { result ≡ compare_value relation x y }
+    ensures number { IfSome result (IsNumber kinds.Int) }
+{
+    match (x, y) {
+        (Some(a), Some(b)) => Some(truth(compare(relation, a, b))),
+        _ => None,
+    }
+}
+
+fn is_true(z: i128) -> bool
+    ensures { result ≡ is_true z }
+{
+    z != 0
+}
+
+fn truth_of(x: Option<i128>) -> Option<i128>
+    ensures is { result ≡ truth_value x }
+    ensures number { IfSome result (IsNumber kinds.Int) }
+{
+    match x {
+        Some(z) => Some(truth(is_true(z))),
+        None => None,
+    }
+}
+
+/// `&&`: the second operand counts where the first isn't 0.
+fn both(x: Option<i128>, y: Option<i128>) -> Option<i128>
+    ensures is { result ≡ and_value x y }
+    ensures number { IfSome result (IsNumber kinds.Int) }
+{
+    match x {
+        Some(a) => if is_true(a) {
+            truth_of(y)
+        } else {
+            Some(truth(false))
+        },
+        None => None,
+    }
+}
+
+/// `||`: the second operand counts where the first is 0.
+fn either(x: Option<i128>, y: Option<i128>) -> Option<i128>
+    ensures is { result ≡ or_value x y }
+    ensures number { IfSome result (IsNumber kinds.Int) }
+{
+    match x {
+        Some(a) => if is_true(a) {
+            Some(truth(true))
+        } else {
+            truth_of(y)
+        },
+        None => None,
+    }
+}
+
+/// `?:`: the second or the third operand.
+fn chosen(z: Option<i128>, x: Option<i128>, y: Option<i128>) -> Option<i128>
+    ensures { result ≡ cond_value z x y }
+{
+    match z {
+        Some(c) => if is_true(c) { x } else { y },
+        None => None,
+    }
+}
