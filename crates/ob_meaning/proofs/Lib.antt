@@ -23,3 +23,5 @@ pub mod TypedAccesses
 pub mod TypedPointers
 pub mod TypedExpressions
 pub mod TypedStatements
+pub mod TypedCalls
+pub mod Agreement

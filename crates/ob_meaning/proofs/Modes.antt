@@ -6,7 +6,7 @@ use Rattle.ob_model.specs.declared.values.Value.{Value}
 use Rattle.ob_model.specs.Endings.{Finish, plain, dead, dropped}
 use Rattle.ob_meaning.specs.FirstDrop.{GoesOnFrom, RunsOfSettingsAreAlike, VanishingRunsDropNothing}
 use Rattle.ob_meaning.specs.Runs.{finish_of, meaning, meaning_end, outcome_of, run, setup_of}
-use Rattle.ob_meaning.specs.Setup.{rule_in, wide_rule_in}
+use Rattle.ob_meaning.specs.Setup.{rule_in, unlimited_rule_in}
 use Rattle.ob_meaning.specs.World.{Run, stop, go, end_of, vanish}
 use Rattle.ob_meaning.proofs.FirstDrop.{to_the_first_drop}
 use Rattle.ob_meaning.proofs.Quiet.{IsNoDrop}
@@ -29,7 +29,7 @@ alike_itself (stop (dropped line) w) h none = absurd h
 pub runs_of_settings : RunsOfSettingsAreAlike
 runs_of_settings program settings cycle place input input_end steps = by_mode settings.mode
   where
-    by_mode : (mode : Mode) → GoesOnFrom (meaning program (wide_rule_in mode settings.store) settings cycle place input input_end steps).finish (meaning program (wide_rule_in mode settings.store) settings cycle place input input_end steps) (meaning program (rule_in mode settings.store) settings cycle place input input_end steps) (meaning_end program (rule_in mode settings.store) settings cycle place input input_end steps)
+    by_mode : (mode : Mode) → GoesOnFrom (meaning program (unlimited_rule_in mode settings.store) settings cycle place input input_end steps).finish (meaning program (unlimited_rule_in mode settings.store) settings cycle place input input_end steps) (meaning program (rule_in mode settings.store) settings cycle place input input_end steps) (meaning_end program (rule_in mode settings.store) settings cycle place input input_end steps)
     by_mode Oblivious =
         let u = setup_of program vanish settings cycle input_end in
         let h = vanishing_run u place input steps in

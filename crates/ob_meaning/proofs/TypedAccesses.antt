@@ -1,25 +1,11 @@
 -- Loads give values of their types where pointer granules hold pointers, and stores of such values keep them so.
-use Rattle.std.proofs.Common.{◌≡◌, ℕ, zero, suc, ◌+◌, ◌/◌, ◌<◌, cond, unsigned_abs, ◌==◌, ◌&&◌, ◌||◌, Bool, true, false, not, nat_lt, ℤ, pos, negsuc, ◌+ℤ◌, List, [], ◌∷◌, ◌++◌, length, replicate, slice_index_or, slice_set, is_some, unwrap_or, Option, Some, None, Result, Ok, Err, if◌then◌else◌, All, arith, refl, sym, subst, ◌∙◌, ap}
-use Rattle.std.specs.List.{filter, find}
+use Rattle.std.proofs.Common.{◌≡◌, ℕ, zero, suc, ◌/◌, cond, unsigned_abs, ◌||◌, Bool, true, false, not, nat_lt, ℤ, pos, List, [], ◌∷◌, length, slice_index_or, is_some, unwrap_or, Option, Some, None, All, refl, sym, subst}
 use Rattle.std.specs.Option.{option_map}
-use Rattle.std.specs.Ordering.{int_eq}
-use Rattle.std.proofs.lemmas.Int.{ints}
-use Rattle.std.proofs.lemmas.List.Elements.{All-append, All-cons, All-filter, All-head, All-nil, All-replicate, All-set, All-tail, All-take}
-use Rattle.ob_words.specs.declared.types.BinOp.{BinOp}
-use Rattle.ob_words.specs.declared.types.DivideByZero.{DivideByZero}
-use Rattle.ob_words.specs.declared.types.IntType.{IntType}
-use Rattle.ob_words.specs.declared.types.IntType.TheVariants as type
-use Rattle.ob_words.specs.declared.types.Relation.{Relation}
-use Rattle.ob_words.specs.Conversion.{convert}
+use Rattle.std.proofs.lemmas.List.Elements.{All-cons, All-filter, All-head, All-nil, All-set, All-tail, All-take}
 use Rattle.ob_words.specs.Fields.{low_bytes}
-use Rattle.ob_words.specs.Types.{IsNumber, width}
+use Rattle.ob_words.specs.Types.{width}
 use Rattle.ob_words.specs.Words.{number, word}
 use Rattle.ob_words.proofs.Conversions.{convert_number}
-use Rattle.ob_model.specs.declared.endings.Ending.{Ending}
-use Rattle.ob_model.specs.declared.endings.Ending.TheVariants.{Descriptors, Far, Stack}
-use Rattle.ob_model.specs.declared.objects.Sort.{Sort}
-use Rattle.ob_model.specs.declared.objects.Sort.TheVariants.{Heap}
-use Rattle.ob_model.specs.declared.strays.Act.{Act}
 use Rattle.ob_model.specs.declared.strays.Act.TheVariants as act
 use Rattle.ob_model.specs.declared.values.LoadKind.{LoadKind}
 use Rattle.ob_model.specs.declared.values.LoadKind.TheVariants.{Num, Ptr}
@@ -27,26 +13,21 @@ use Rattle.ob_model.specs.declared.values.Value.{Value}
 use Rattle.ob_model.specs.declared.values.Value.TheVariants as value
 use Rattle.ob_model.specs.Accesses.{Reach, bytes_of_kind, granule, is_far, is_inside, place_in_granule}
 use Rattle.ob_model.specs.Accesses as reaches
-use Rattle.ob_model.specs.Bounded.{Listed, after_load, after_store, dropped, is_of, listed_cell, moved_to_front, put_first, surviving_cells, without_granule}
-use Rattle.ob_model.specs.Cells.{Content, bytes, pointer, read_number, set_bytes, unset, written, zeros}
-use Rattle.ob_model.specs.Descriptors.{Pair}
-use Rattle.ob_model.specs.Endings.{InputEnd, closed, failed, plain, dead, dropped as too_many}
-use Rattle.ob_model.specs.Heap.{place_for}
+use Rattle.ob_model.specs.Bounded.{Listed, after_load, is_of, listed_cell, moved_to_front, put_first, without_granule}
+use Rattle.ob_model.specs.Cells.{bytes, pointer, read_number, set_bytes, unset, written, zeros}
+use Rattle.ob_model.specs.Endings.{dropped as too_many}
 use Rattle.ob_model.specs.Manufactured.{manufactured}
 use Rattle.ob_tree.specs.Types.{PlainType}
 use Rattle.ob_tree.specs.Types.PlainType.{Void, Int, Pointer, Array, Struct}
-use Rattle.ob_meaning.specs.Accesses.{Target, dead_object, too_far, at, after_outside_load, first_drop, load, load_at, or_made, outside_cell, put_outside, store, store_at, take_made, target, told_if_stray}
-use Rattle.ob_meaning.specs.Expressions.{choose}
-use Rattle.ob_meaning.specs.Heap.{allocated, allocated_at, exited, free, freed, is_heap, read_byte, write_byte}
-use Rattle.ob_meaning.specs.Memory.{Object, dead_if, is_dead, new_object, no_object, object_at, own_cell, with_deaths, with_own, with_own_cell, wiped}
-use Rattle.ob_meaning.specs.Pointers.{compared, difference, formed, is_listed, listed, move, moved_by, moved_to, one_is_dead, pointers_compare, subtracted, uses_dead}
+use Rattle.ob_meaning.specs.Accesses.{Target, dead_object, too_far, at, after_outside_load, load, load_at, or_made, outside_cell, put_outside, store, store_at, take_made, target}
+use Rattle.ob_meaning.specs.Memory.{Object, object_at, own_cell, with_own, with_own_cell}
 use Rattle.ob_meaning.specs.Setup.{kind_of}
-use Rattle.ob_meaning.specs.Values.{Cell, made_value, nothing, number_of, read_cell, truth, write_cell}
+use Rattle.ob_meaning.specs.Values.{Cell, made_value, nothing, number_of, read_cell, write_cell}
 use Rattle.ob_meaning.specs.ValueTypes.{Class, GivesIn, HasClass, HoldsPointers, IsScalar, IsTypedWorld, class_of, none}
 use Rattle.ob_meaning.specs.ValueTypes as class
-use Rattle.ob_meaning.specs.World.{Rule, vanish, kept, unlimited, World, Call, Run, stop, go, bind, step, take_step, stray_event, told, without}
-use Rattle.ob_meaning.proofs.OutsideLists.{cell_in, cond_false, listed_is}
-use Rattle.ob_meaning.proofs.TypedActs.{OfKind, Typed, gives_if, small_number, truth_is, typed_formed, typed_go, typed_stop}
+use Rattle.ob_meaning.specs.World.{Rule, vanish, kept, unlimited, World, Call, stop, go, stray_event, told}
+use Rattle.ob_meaning.proofs.OutsideLists.{cell_in, listed_is}
+use Rattle.ob_meaning.proofs.TypedActs.{OfKind, Typed, gives_if}
 
 -- ---- granules
 

@@ -1,49 +1,33 @@
 -- Moves, comparisons, the heap, input and output give values of their types.
-use Rattle.std.proofs.Common.{◌≡◌, ℕ, zero, suc, ◌+◌, ◌<◌, ◌==◌, ◌&&◌, ◌||◌, Bool, true, false, not, nat_lt, ℤ, pos, negsuc, ◌+ℤ◌, List, [], ◌∷◌, ◌++◌, length, replicate, slice_index_or, slice_set, is_some, unwrap_or, Option, Some, None, Result, Ok, Err, if◌then◌else◌, All, arith, refl, sym, subst, ◌∙◌, ap}
-use Rattle.std.specs.List.{filter, find}
-use Rattle.std.specs.Option.{option_map}
+use Rattle.std.proofs.Common.{ℕ, ◌+◌, ◌<◌, ◌==◌, ◌&&◌, Bool, true, false, not, nat_lt, ℤ, pos, negsuc, ◌+ℤ◌, List, [], ◌∷◌, length, Option, Some, None, if◌then◌else◌, All, arith}
 use Rattle.std.specs.Ordering.{int_eq}
 use Rattle.std.proofs.lemmas.Int.{ints}
-use Rattle.std.proofs.lemmas.List.Elements.{All-append, All-cons, All-filter, All-head, All-nil, All-replicate, All-set, All-tail, All-take}
-use Rattle.ob_words.specs.declared.types.BinOp.{BinOp}
-use Rattle.ob_words.specs.declared.types.DivideByZero.{DivideByZero}
-use Rattle.ob_words.specs.declared.types.IntType.{IntType}
+use Rattle.std.proofs.lemmas.List.Elements.{All-append, All-cons, All-filter, All-head, All-nil, All-replicate, All-tail}
 use Rattle.ob_words.specs.declared.types.IntType.TheVariants as type
 use Rattle.ob_words.specs.declared.types.Relation.{Relation}
 use Rattle.ob_words.specs.Conversion.{convert}
 use Rattle.ob_words.specs.Types.{IsNumber}
 use Rattle.ob_words.proofs.Conversions.{convert_number}
-use Rattle.ob_model.specs.declared.endings.Ending.{Ending}
-use Rattle.ob_model.specs.declared.endings.Ending.TheVariants.{Descriptors, Far, Stack}
+use Rattle.ob_model.specs.declared.endings.Ending.TheVariants.{Descriptors, Far}
 use Rattle.ob_model.specs.declared.objects.Sort.{Sort}
 use Rattle.ob_model.specs.declared.objects.Sort.TheVariants.{Heap}
-use Rattle.ob_model.specs.declared.strays.Act.{Act}
 use Rattle.ob_model.specs.declared.strays.Act.TheVariants as act
-use Rattle.ob_model.specs.declared.values.LoadKind.{LoadKind}
-use Rattle.ob_model.specs.declared.values.LoadKind.TheVariants.{Num, Ptr}
 use Rattle.ob_model.specs.declared.values.Value.{Value}
 use Rattle.ob_model.specs.declared.values.Value.TheVariants as value
-use Rattle.ob_model.specs.Accesses.{Reach, bytes_of_kind, granule, is_far, is_inside}
-use Rattle.ob_model.specs.Accesses as reaches
-use Rattle.ob_model.specs.Bounded.{Listed, after_load, after_store, dropped, is_of, listed_cell, moved_to_front, put_first, surviving_cells, without_granule}
-use Rattle.ob_model.specs.Cells.{Content, bytes, pointer, read_number, unset, written, zeros}
+use Rattle.ob_model.specs.Accesses.{is_far, is_inside}
+use Rattle.ob_model.specs.Bounded.{Listed}
+use Rattle.ob_model.specs.Cells.{zeros}
 use Rattle.ob_model.specs.Descriptors.{Pair}
-use Rattle.ob_model.specs.Endings.{InputEnd, closed, failed, plain, dead, dropped as too_many}
+use Rattle.ob_model.specs.Endings.{InputEnd, closed, failed, plain, dead}
 use Rattle.ob_model.specs.Heap.{place_for}
-use Rattle.ob_tree.specs.Types.{PlainType}
-use Rattle.ob_tree.specs.Types.PlainType.{Void, Int, Pointer, Array, Struct}
-use Rattle.ob_meaning.specs.Accesses.{Target, dead_object, too_far, at, after_outside_load, first_drop, load, load_at, or_made, outside_cell, put_outside, store, store_at, take_made, target, told_if_stray}
-use Rattle.ob_meaning.specs.Expressions.{choose}
-use Rattle.ob_meaning.specs.Heap.{allocated, allocated_at, exited, free, freed, is_heap, read_byte, write_byte}
-use Rattle.ob_meaning.specs.Memory.{Object, dead_if, is_dead, new_object, no_object, object_at, own_cell, with_deaths, with_own, with_own_cell, wiped}
-use Rattle.ob_meaning.specs.Pointers.{compared, difference, formed, is_listed, listed, move, moved_by, moved_to, one_is_dead, pointers_compare, subtracted, uses_dead}
-use Rattle.ob_meaning.specs.Setup.{kind_of}
-use Rattle.ob_meaning.specs.Values.{Cell, made_value, nothing, number_of, read_cell, truth, write_cell}
+use Rattle.ob_meaning.specs.Heap.{allocated, allocated_at, free, freed, is_heap, read_byte, write_byte}
+use Rattle.ob_meaning.specs.Memory.{Object, dead_if, is_dead, new_object, object_at, with_deaths}
+use Rattle.ob_meaning.specs.Pointers.{compared, difference, is_listed, listed, move, moved_by, moved_to, one_is_dead, pointers_compare, subtracted, uses_dead}
+use Rattle.ob_meaning.specs.Values.{Cell, nothing, number_of, truth}
 use Rattle.ob_meaning.specs.ValueTypes.{Class, GivesIn, HasClass, HoldsPointers, IsScalar, IsTypedWorld, class_of, none}
 use Rattle.ob_meaning.specs.ValueTypes as class
-use Rattle.ob_meaning.specs.World.{Rule, vanish, kept, unlimited, World, Call, Run, stop, go, bind, step, take_step, stray_event, told, without}
-use Rattle.ob_meaning.proofs.OutsideLists.{cell_in, cond_false, listed_is}
-use Rattle.ob_meaning.proofs.TypedActs.{OfKind, Typed, gives_if, nothing_is, small_number, truth_is, typed_formed, typed_go, typed_stop}
+use Rattle.ob_meaning.specs.World.{World, Call, stop, go, stray_event, told, without}
+use Rattle.ob_meaning.proofs.TypedActs.{Typed, gives_if, small_number, truth_is}
 use Rattle.ob_meaning.proofs.TypedAccesses.{Any, HoldsOwn}
 
 abbrev IsPointer : Value → Type 0

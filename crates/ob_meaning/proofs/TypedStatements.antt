@@ -1,42 +1,30 @@
--- Initialisers, statements and calls keep worlds typed, and calls give values of their types.
-use Rattle.std.proofs.Common.{◌≡◌, ℕ, zero, suc, ◌+◌, ◌/◌, ◌<◌, Bool, true, false, nat_lt, ℤ, pos, List, [], ◌∷◌, ◌++◌, length, map, replicate, slice_index_or, slice_set, Option, Some, None, All, refl, sym, subst, ◌∙◌, ap}
-use Rattle.std.proofs.lemmas.List.Elements.{All-append, All-cons, All-map, All-nil, All-replicate, All-set}
-use Rattle.ob_words.specs.declared.types.IntType.{IntType}
-use Rattle.ob_words.specs.Types.{IsNumber}
+-- Initialisers and statements keep worlds typed.
+use Rattle.std.proofs.Common.{ℕ, ◌+◌, true, pos, List, [], ◌∷◌, slice_index_or, Option, Some, None, All, sym, subst}
+use Rattle.std.proofs.lemmas.List.Elements.{All-replicate, All-set}
 use Rattle.ob_words.proofs.Conversions.{convert_number}
-use Rattle.ob_words.proofs.Ranges.{range_is}
-use Rattle.ob_model.specs.declared.endings.Ending.TheVariants.{Stack, Steps}
-use Rattle.ob_model.specs.declared.objects.Sort.TheVariants.{Automatic}
 use Rattle.ob_model.specs.declared.values.Value.{Value}
 use Rattle.ob_model.specs.declared.values.Value.TheVariants as value_of
-use Rattle.ob_model.specs.Accesses.{own_granules}
-use Rattle.ob_model.specs.Cells.{zeros, pointer}
-use Rattle.ob_model.specs.Endings.{plain}
-use Rattle.ob_tree.specs.Sizes.{size}
-use Rattle.ob_tree.specs.Types.{PlainType, PlainStructs}
+use Rattle.ob_model.specs.Cells.{zeros}
+use Rattle.ob_tree.specs.Types.{PlainType}
 use Rattle.ob_tree.specs.Types.PlainType.{Void, Int, Pointer, Array, Struct}
-use Rattle.ob_typed.specs.declared.statics.StaticPointer.{StaticPointer}
-use Rattle.ob_typed.specs.TypedTree.{TypedExpr, TypedInit, TypedInits, TypedObject, TypedStmt, TypedStmts}
+use Rattle.ob_typed.specs.TypedTree.{TypedExpr, TypedInit, TypedInits, TypedStmt, TypedStmts}
 use Rattle.ob_typed.specs.TypedTree.{TypedInit as init, TypedStmt as stmt}
 use Rattle.ob_typed.specs.TypedTree.TypedExpr.{Typed as typed}
 use Rattle.ob_typed.specs.TypedTree.TypedInits.{NoItems, Item}
 use Rattle.ob_typed.specs.TypedTree.TypedPlace.{Place}
 use Rattle.ob_typed.specs.TypedTree.TypedStmts.{NoStmts, Stmt}
-use Rattle.ob_meaning.specs.Calls.{allowance_of, allowances, automatic, automatics, below, called, entered, left, left_to, null_of, result_of, returned, stack_bytes}
-use Rattle.ob_meaning.specs.Expressions.{Based, at_object, choose, converted, copy_scalars, further, store_based, value}
+use Rattle.ob_meaning.specs.Expressions.{Based, at_object, converted, store_based, value}
 use Rattle.ob_meaning.specs.Initialisers.{cleared, initialise, initialise_items, initialise_local, local_type, store_characters}
-use Rattle.ob_meaning.specs.Memory.{Object, is_among, next_number, no_object, object_at, wiped, with_own, with_wiped}
-use Rattle.ob_meaning.specs.Runs.{first_world, granules_of, static_object, with_pointers}
+use Rattle.ob_meaning.specs.Memory.{Object, object_at, wiped, with_wiped}
 use Rattle.ob_meaning.specs.Scalars.{part_of, scalars_of}
-use Rattle.ob_meaning.specs.Setup.{Below, Flow, next, broke, continued, gave, Loop, Setup, first_local, function_at, kind_of, number_type, running}
+use Rattle.ob_meaning.specs.Setup.{Below, Flow, next, broke, continued, gave, Loop, Setup, first_local, number_type, running}
 use Rattle.ob_meaning.specs.Statements.{dropped, exec, exec_all, goes_on, loop_of, looped, loops_on, optional, start_all, start_one, then_do, turn, turns}
-use Rattle.ob_meaning.specs.Values.{Cell, is_true, nothing, truth, write_cell}
+use Rattle.ob_meaning.specs.Values.{is_true, nothing, truth}
 use Rattle.ob_meaning.specs.ValueTypes.{AreTypedItems, AreTypedStmts, AreValues, CallsHaveTypes, Class, GivesIn, HasClass, HoldsPointers, IsNumberClass, IsScalar, IsTyped, IsTypedInit, IsTypedOption, IsTypedProgram, IsTypedReturn, IsTypedStmt, IsTypedWorld, RunsBeginTyped, ValuesHaveTypes, class_of, class_of_expression, none}
 use Rattle.ob_meaning.specs.ValueTypes as class
-use Rattle.ob_meaning.specs.World.{Call, World, Run, stop, go, bind, step, without}
-use Rattle.ob_meaning.proofs.TypedActs.{Typed, typed_bind, typed_choose, typed_go, typed_step, typed_stop, typed_weaken}
-use Rattle.ob_meaning.proofs.TypedAccesses.{Any, HoldsOwn, class_kind, at_objects, write_holds}
-use Rattle.ob_meaning.proofs.TypedPointers.{new_holds, without_ok}
+use Rattle.ob_meaning.specs.World.{Call, World, Run, go}
+use Rattle.ob_meaning.proofs.TypedActs.{Typed, typed_bind, typed_choose, typed_go, typed_step, typed_weaken}
+use Rattle.ob_meaning.proofs.TypedAccesses.{Any, HoldsOwn}
 use Rattle.ob_meaning.proofs.TypedExpressions.{FlowIs, TypedBelow, result_class, typed_based, typed_copies, typed_further, typed_store_based, typed_value}
 
 abbrev AnyPlace : Based → Type 0
@@ -57,25 +45,25 @@ module _ (u : Setup) (calls : List Call) where
   typed_characters ty b [] i h = typed_go calls Any nothing tt
   typed_characters ty b (c ∷ cs) i h =
       typed_bind calls AnyPlace Any _ _ (typed_further u calls b (pos i)) (λ at j.
-          typed_bind calls Any Any _ _ (typed_character ty at c h) (λ v k. typed_characters ty b cs (i + 1) h))
+      typed_bind calls Any Any _ _ (typed_character ty at c h) (λ v k. typed_characters ty b cs (i + 1) h))
 
   module _ (m : Below) (below : TypedBelow u m) where
     mutual
       typed_init : (item : TypedInit) (ty : PlainType) (b : Based) → IsTypedInit u ty item → Typed calls Any (initialise u m ty b item)
       typed_init (init.Value (typed line t what)) ty b h =
           typed_bind calls (HasClass (class_of t)) Any _ _ (typed_value u calls m below (typed line t what) h.2) (λ v i.
-              typed_weaken calls (HasClass (class_of ty)) Any _ (λ x j. tt) (typed_store_based u calls ty line b v h.1 (subst (λ c. HasClass c v) h.0 i)))
+          typed_weaken calls (HasClass (class_of ty)) Any _ (λ x j. tt) (typed_store_based u calls ty line b v h.1 (subst (λ c. HasClass c v) h.0 i)))
       typed_init (init.Chars cs) ty b h = typed_characters (part_of u.program.structs ty 0).ty b cs 0 h
       typed_init (init.Items items) ty b h = typed_items items ty b 0 h
       typed_init (init.Copy (Place line t lean)) ty b h =
           typed_bind calls AnyPlace Any _ _ (typed_based u calls m below lean h) (λ from i.
-              typed_copies u calls line b from (scalars_of u.program.structs ty))
+          typed_copies u calls line b from (scalars_of u.program.structs ty))
 
       typed_items : (items : TypedInits) (ty : PlainType) (b : Based) (i : ℕ) → AreTypedItems u ty items i → Typed calls Any (initialise_items u m ty b items i)
       typed_items NoItems ty b i h = typed_go calls Any nothing tt
       typed_items (Item head tail) ty b i h =
           typed_bind calls AnyPlace Any _ _ (typed_further u calls b (pos (part_of u.program.structs ty i).offset)) (λ at j.
-              typed_bind calls Any Any _ _ (typed_init head (part_of u.program.structs ty i).ty at h.0) (λ v k. typed_items tail ty b (i + 1) h.1))
+          typed_bind calls Any Any _ _ (typed_init head (part_of u.program.structs ty i).ty at h.0) (λ v k. typed_items tail ty b (i + 1) h.1))
 
     wiped_holds : (objects : List Object) (object : ℕ) → All HoldsOwn objects → All HoldsOwn (with_wiped objects object)
     wiped_holds objects object all =
@@ -165,10 +153,10 @@ module _ (u : Setup) (calls : List Call) where
       typed_exec (stmt.Init i item) h = typed_dropped (result_class u calls) _ (typed_local_init i item h)
       typed_exec (stmt.If e s) h =
           typed_step calls (FlowIs (result_class u calls)) _ (typed_bind calls Any (FlowIs (result_class u calls)) _ _ (typed_any e h.0) (λ x i.
-              typed_choose calls (FlowIs (result_class u calls)) (is_true x) _ (go next) (typed_exec s h.1) (typed_go calls (FlowIs (result_class u calls)) next tt)))
+          typed_choose calls (FlowIs (result_class u calls)) (is_true x) _ (go next) (typed_exec s h.1) (typed_go calls (FlowIs (result_class u calls)) next tt)))
       typed_exec (stmt.IfElse e s t) h =
           typed_step calls (FlowIs (result_class u calls)) _ (typed_bind calls Any (FlowIs (result_class u calls)) _ _ (typed_any e h.0) (λ x i.
-              typed_choose calls (FlowIs (result_class u calls)) (is_true x) _ _ (typed_exec s h.1) (typed_exec t h.2)))
+          typed_choose calls (FlowIs (result_class u calls)) (is_true x) _ _ (typed_exec s h.1) (typed_exec t h.2)))
       typed_exec (stmt.While e s) h =
           typed_step calls (FlowIs (result_class u calls)) _ (typed_looped (result_class u calls) _ _ (typed_any e h.0) (typed_turn (result_class u calls) _ _ _ (typed_exec s h.1) (typed_go calls Any nothing tt) (below.turns calls (loop_of (Some e) None s) h.0 tt h.1)))
       typed_exec (stmt.Do s e) h =

@@ -1,9 +1,10 @@
 -- Laws of the meaning. The example programs run with the cycle 0, 1, 2 of manufactured values from its first place on, for
 -- sixty steps, with room for one out-of-bounds pointer and 32 bytes of heap, and without input unless it is given.
-use Rattle.std.specs.Prelude.{◌≡◌, ℕ, pos, List, [], ◌∷◌, Some}
+use Rattle.std.specs.Prelude.{◌≡◌, ℕ, ℤ, pos, negsuc, List, [], ◌∷◌, Some}
 use Rattle.ob_model.specs.declared.endings.Ending.TheVariants.{Ended, Steps, Divide, Stack, Descriptors, Far, ReadFault}
 use Rattle.ob_model.specs.declared.settings.Mode.TheVariants.{Oblivious}
 use Rattle.ob_model.specs.declared.settings.RunSettings.{RunSettings}
+use Rattle.ob_model.specs.declared.strays.Act.{Act}
 use Rattle.ob_model.specs.declared.strays.Act.TheVariants as act
 use Rattle.ob_model.specs.declared.strays.StrayEvent.{StrayEvent}
 use Rattle.ob_model.specs.Endings.{Finish, InputEnd, closed, failed, Outcome, plain, dead, dropped}
@@ -37,6 +38,10 @@ stray_load object offset size = stray_event 1 act.Load object (pos offset) size
 
 abbrev pub stray_store : ℕ → ℕ → ℕ → StrayEvent
 stray_store object offset size = stray_event 1 act.Store object (pos offset) size
+
+-- of four bytes of the first object
+abbrev pub stray_at : Act → ℤ → StrayEvent
+stray_at what offset = stray_event 1 what 1 offset 4
 
 -- each read past the end takes the next manufactured value
 abbrev pub OverrunReads : Type 0
@@ -89,6 +94,24 @@ abbrev pub RecentUseKeeps : Type 0
 RecentUseKeeps =
     Prints (run_under (kept 2) examples.recent_use) (53 ∷ 48 ∷ [])
     (stray_store 1 40 4 ∷ stray_store 1 80 4 ∷ stray_load 1 40 4 ∷ stray_store 1 120 4 ∷ stray_load 1 40 4 ∷ stray_load 1 80 4 ∷ []) 1
+
+-- granules before an object are like those behind it
+abbrev pub GranulesBefore : Rule → Type 0
+GranulesBefore rule =
+    Prints (run_under rule examples.negative) (53 ∷ 55 ∷ [])
+    (stray_at act.Store (negsuc 3) ∷ stray_at act.Store (negsuc 15) ∷ stray_at act.Load (negsuc 3) ∷ stray_at act.Load (negsuc 15) ∷ []) 0
+
+-- a load that meets an unset byte takes a manufactured value, though others are set; once all are set it gives them
+abbrev pub UnsetByteIsMade : Rule → Type 0
+UnsetByteIsMade rule =
+    Prints (run_under rule examples.partly_set) (48 ∷ 49 ∷ 49 ∷ [])
+    (stray_store 1 8 1 ∷ stray_load 1 8 4 ∷ stray_load 1 8 1 ∷ stray_store 1 9 1 ∷ stray_store 1 10 1 ∷ stray_store 1 11 1 ∷ stray_load 1 8 4 ∷ []) 1
+
+-- a pointer is kept outside, until a number is stored over it; the number's other bytes are then 0 and set
+abbrev pub PointerIsKeptOutside : Rule → Type 0
+PointerIsKeptOutside rule =
+    Prints (run_under rule examples.pointer_outside) (49 ∷ 49 ∷ 57 ∷ [])
+    (stray_store 1 16 8 ∷ stray_load 1 16 8 ∷ stray_store 1 16 4 ∷ stray_load 1 16 8 ∷ stray_load 1 16 4 ∷ []) 0
 
 -- ---- pointers
 

@@ -126,6 +126,43 @@ lost_pointer =
     ∷ set char_type (past (at.Member (at.Local 0) 0) 1 8) (as_char (number 1))
     ∷ stmt.If (equal (read char_pointer (at.Member (at.Local 0) 8)) null) (put (number 110)) ∷ return_zero) ∷ [])
 
+-- ---- granules outside of objects
+
+-- int a[2]; a[-1] = 5; a[-4] = 7; putchar('0' + a[-1]); putchar('0' + a[-4]);
+abbrev pub int_before : ℕ → TypedLean
+int_before n = before (at.Local 0) 4 n
+
+abbrev pub negative : TypedProgram
+negative =
+    simple (Array int_type 2 ∷ []) 25
+    (set int_type (int_before 1) (number 5) ∷ set int_type (int_before 4) (number 7) ∷ put (digit (read int_type (int_before 1)))
+    ∷ put (digit (read int_type (int_before 4))) ∷ return_zero)
+
+-- char a[2]; a[8] = 1; putchar('0' + *(int *)(a + 8)); putchar('0' + a[8]); a[9] = a[10] = a[11] = 0; putchar('0' + *(int *)(a + 8));
+abbrev pub int_at_eight : TypedExpr
+int_at_eight = read int_type (past (at.Local 0) 1 8)
+
+abbrev pub set_char : ℕ → ℕ → TypedStmt
+set_char n value = set char_type (element 0 n) (as_char (number value))
+
+abbrev pub partly_set : TypedProgram
+partly_set =
+    simple (two_chars ∷ []) 42
+    (set_char 8 1 ∷ put (digit int_at_eight) ∷ put_digit (element 0 8) ∷ set_char 9 0 ∷ set_char 10 0 ∷ set_char 11 0
+    ∷ put (digit int_at_eight) ∷ return_zero)
+
+-- char *v[1]; v[2] = (char *)v; putchar('0' + (v[2] == (char *)v)); *(int *)(v + 2) = 9; putchar('0' + (v[2] == 0)); putchar('0' + *(int *)(v + 2));
+abbrev pub kept_pointer : TypedLean
+kept_pointer = past (at.Local 0) 8 2
+
+abbrev pub pointer_outside : TypedProgram
+pointer_outside =
+    simple (Array char_pointer 1 ∷ []) 36
+    (set char_pointer kept_pointer (pointer_to char_type (at.Local 0))
+    ∷ put (digit (equal (read char_pointer kept_pointer) (pointer_to char_type (at.Local 0))))
+    ∷ set int_type kept_pointer (number 9) ∷ put (digit (equal (read char_pointer kept_pointer) null))
+    ∷ put (digit (read int_type kept_pointer)) ∷ return_zero)
+
 -- ---- the heap
 
 -- int *p; p = malloc(6); p[1] = 9; putchar('0' + p[1]);

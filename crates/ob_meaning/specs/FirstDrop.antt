@@ -4,7 +4,7 @@ use Rattle.ob_model.specs.declared.settings.RunSettings.{RunSettings}
 use Rattle.ob_model.specs.Endings.{Agrees, Finish, InputEnd, Outcome, plain, dead, dropped}
 use Rattle.ob_typed.specs.TypedTree.{TypedProgram}
 use Rattle.ob_meaning.specs.Runs.{meaning, meaning_end}
-use Rattle.ob_meaning.specs.Setup.{rule_of, wide_rule_of}
+use Rattle.ob_meaning.specs.Setup.{rule_of, unlimited_rule_of}
 use Rattle.ob_meaning.specs.World.{World, vanish, kept, unlimited}
 
 -- Where the unlimited run ends by itself, the bounded one is the same, and nothing was dropped. Where it ends because one granule
@@ -33,4 +33,12 @@ VanishingRunsDropNothing =
 abbrev pub RunsOfSettingsAreAlike : Type 0
 RunsOfSettingsAreAlike =
     (program : TypedProgram) (settings : RunSettings) (cycle : List ℕ) (place : ℕ) (input : List ℕ) (input_end : InputEnd) (steps : ℕ) →
-    GoesOnFrom (meaning program (wide_rule_of settings) settings cycle place input input_end steps).finish (meaning program (wide_rule_of settings) settings cycle place input input_end steps) (meaning program (rule_of settings) settings cycle place input input_end steps) (meaning_end program (rule_of settings) settings cycle place input input_end steps)
+    GoesOnFrom (meaning program (unlimited_rule_of settings) settings cycle place input input_end steps).finish (meaning program (unlimited_rule_of settings) settings cycle place input input_end steps) (meaning program (rule_of settings) settings cycle place input input_end steps) (meaning_end program (rule_of settings) settings cycle place input input_end steps)
+
+-- a machine's run that agrees with the bounded run agrees with the unlimited one
+abbrev pub AgreementGoesThrough : Type 0
+AgreementGoesThrough =
+    (machine_run unlimited_run bounded_run : Outcome) (bounded_end : World) →
+    Agrees machine_run bounded_run →
+    GoesOnFrom unlimited_run.finish unlimited_run bounded_run bounded_end →
+    Agrees machine_run unlimited_run

@@ -32,12 +32,12 @@ rule_in Boundless cap = kept cap
 abbrev pub rule_of : RunSettings → Rule
 rule_of settings = rule_in settings.mode settings.store
 
-abbrev pub wide_rule_in : Mode → ℕ → Rule
-wide_rule_in Oblivious cap = vanish
-wide_rule_in Boundless cap = unlimited cap
+abbrev pub unlimited_rule_in : Mode → ℕ → Rule
+unlimited_rule_in Oblivious cap = vanish
+unlimited_rule_in Boundless cap = unlimited cap
 
-abbrev pub wide_rule_of : RunSettings → Rule
-wide_rule_of settings = wide_rule_in settings.mode settings.store
+abbrev pub unlimited_rule_of : RunSettings → Rule
+unlimited_rule_of settings = unlimited_rule_in settings.mode settings.store
 
 -- ---- types of accesses
 

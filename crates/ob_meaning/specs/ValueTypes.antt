@@ -1,18 +1,17 @@
 -- Which values the expressions of a typed program give (C99 6.2.5): a number of its type where an expression has an integer type,
 -- null or a pointer where it has a pointer type. This holds of a program whose nodes have the types that are given below for
 -- their parts, as far as values depend on them; typing (6.5) asks more.
-use Rattle.std.specs.Prelude.{◌≡◌, ℕ, ◌+◌, ◌<◌, ℤ, List, [], ◌∷◌, All, Option, Some, None, slice_index_or, length}
+use Rattle.std.specs.Prelude.{◌≡◌, ℕ, ◌+◌, ◌<◌, List, [], ◌∷◌, All, Option, Some, None, slice_index_or}
 use Rattle.ob_words.specs.declared.types.IntType.{IntType}
 use Rattle.ob_words.specs.declared.types.IntType.TheVariants as type
 use Rattle.ob_words.specs.Types.{IsNumber}
-use Rattle.ob_model.specs.declared.settings.RunSettings.{RunSettings}
 use Rattle.ob_model.specs.declared.values.Value.{Value}
 use Rattle.ob_model.specs.declared.values.Value.TheVariants as value
-use Rattle.ob_tree.specs.Types.{PlainType, PlainStructs}
+use Rattle.ob_tree.specs.Types.{PlainType}
 use Rattle.ob_tree.specs.Types.PlainType.{Void, Int, Pointer, Array, Struct}
 use Rattle.ob_typed.specs.declared.names.Builtin.{Builtin}
 use Rattle.ob_typed.specs.declared.names.Builtin.TheVariants as builtin
-use Rattle.ob_typed.specs.TypedTree.{TypedExpr, TypedExprs, TypedFunction, TypedInit, TypedInits, TypedLean, TypedNode, TypedProgram, TypedStmt, TypedStmts}
+use Rattle.ob_typed.specs.TypedTree.{TypedExpr, TypedExprs, TypedFunction, TypedInit, TypedInits, TypedLean, TypedNode, TypedStmt, TypedStmts}
 use Rattle.ob_typed.specs.TypedTree.TypedExpr.{Typed}
 use Rattle.ob_typed.specs.TypedTree.{TypedExprs as exprs, TypedLean as at, TypedNode as node, TypedInit as init, TypedInits as inits, TypedStmt as stmt, TypedStmts as stmts}
 use Rattle.ob_typed.specs.TypedTree.TypedPlace.{Place}

@@ -1,8 +1,9 @@
 ghost use Rattle.ob_meaning.specs.World.{vanish, kept, unlimited};
-ghost use Rattle.ob_meaning.specs.ExampleRuns.{OverrunReads, StrayStoreVanishes, StrayStoreIsKept, NeighbourIsUntouched, NumberAtNull, IllAlignedVanishes, LastGranule, PointerIsLost, DropChangesAnswer, UnlimitedEndsAtDrop, FirstDropIsTold, RecentUseKeeps, PointerComesBack, PointersAreEqualByObject, PointersAreCounted, OffsetsAreBounded, FreedPlaceIsTaken, HeapIsFull, UseAfterFreeEnds, OtherFreesAreTold, DivisionByZeroEnds, StepsRunOut, StackIsBounded, InputEnds};
+ghost use Rattle.ob_meaning.specs.ExampleRuns.{GranulesBefore, UnsetByteIsMade, PointerIsKeptOutside, OverrunReads, StrayStoreVanishes, StrayStoreIsKept, NeighbourIsUntouched, NumberAtNull, IllAlignedVanishes, LastGranule, PointerIsLost, DropChangesAnswer, UnlimitedEndsAtDrop, FirstDropIsTold, RecentUseKeeps, PointerComesBack, PointersAreEqualByObject, PointersAreCounted, OffsetsAreBounded, FreedPlaceIsTaken, HeapIsFull, UseAfterFreeEnds, OtherFreesAreTold, DivisionByZeroEnds, StepsRunOut, StackIsBounded, InputEnds};
+ghost use Rattle.ob_meaning.specs.ValueTypes.{CallsHaveTypes, RunsBeginTyped, ValuesHaveTypes};
 ghost use Rattle.ob_meaning.specs.TypeLaws.{ScalarsAreCounted};
 ghost use Rattle.ob_meaning.specs.MemoryLaws.{LoadsInsideTakeNone, RunsKeepObjectsWhole, OtherGranulesStay, OtherOutsidesStay, SizesAndLivesStay, AllElseStays, StoredIsLoaded, StrayStoresVanish, StrayLoadsTakeOne, UnsetByteTakesOne, SetBytesTakeNone, DeadAreNotAlive, GranulesOfTheDeadLeave, GranulesOfTheDeadDoNotCount};
-ghost use Rattle.ob_meaning.specs.FirstDrop.{RunsAreAlikeToTheFirstDrop, RunsOfSettingsAreAlike, VanishingRunsDropNothing};
+ghost use Rattle.ob_meaning.specs.FirstDrop.{AgreementGoesThrough, RunsAreAlikeToTheFirstDrop, RunsOfSettingsAreAlike, VanishingRunsDropNothing};
 ghost use Rattle.ob_meaning.specs.Depth.{BoundOnCallsIsFree, BoundOnTurnsIsFree};
 ghost use Rattle.ob_meaning.specs.LineExample.{LineIsCut, LineIsWhole};
 ghost use Rattle.ob_meaning.specs.ControlRuns.{LeastSteps, LoopsTakeSteps, ChoicesSkip, CallsRecur, DanglingPointerEnds, ExitEnds, EndsGiveZeroOrNull, StaticsHoldPointers, ArraysAreInitialised, StepsGiveOldOrNew, PointersWalk, StructuresAreCopied, ScalarsGoAstray};
@@ -37,6 +38,16 @@ pub fn law_drops()
     ensures unlimited { UnlimitedEndsAtDrop }
     ensures first { FirstDropIsTold }
     ensures recent { RecentUseKeeps }
+{}
+
+/// Runs of small programs with granules outside of objects: before them, partly stored, and with pointers.
+pub fn law_outside()
+    ensures before { GranulesBefore (kept 2) }
+    ensures before_unlimited { GranulesBefore (unlimited 2) }
+    ensures unset { UnsetByteIsMade (kept 2) }
+    ensures unset_unlimited { UnsetByteIsMade (unlimited 2) }
+    ensures pointer { PointerIsKeptOutside (kept 2) }
+    ensures pointer_unlimited { PointerIsKeptOutside (unlimited 2) }
 {}
 
 /// Runs of small programs whose pointers leave their objects.
@@ -97,11 +108,12 @@ pub fn law_line()
 /// run with a bounded list of stray granules is the same and drops none. Where the unlimited run ends
 /// because a store would keep one granule too many, the bounded run begins as it does, and that store is
 /// the first that drops. Where stray accesses vanish, nothing is dropped. So each run goes as the one of
-/// its mode where objects are unlimited.
+/// its mode where objects are unlimited, and what agrees with the one agrees with the other.
 pub fn law_first_drop()
     ensures bounded { RunsAreAlikeToTheFirstDrop }
     ensures vanishing { VanishingRunsDropNothing }
     ensures settings { RunsOfSettingsAreAlike }
+    ensures machine { AgreementGoesThrough }
 {}
 
 /// Calls and loop turns have a meaning for each bound on how many of them stand one in another. A bound of
@@ -149,4 +161,13 @@ pub fn law_deaths()
 /// The scalars that a structure assignment copies are as many as the structure's layout counts.
 pub fn law_scalars()
     ensures { ScalarsAreCounted }
+{}
+
+/// In a typed program an expression of an integer type gives a number of that type, and one of a pointer
+/// type gives null or a pointer; so do calls. A run begins in a world of which this holds, where its input
+/// is bytes.
+pub fn law_values()
+    ensures expressions { ValuesHaveTypes }
+    ensures calls { CallsHaveTypes }
+    ensures runs { RunsBeginTyped }
 {}

@@ -14,8 +14,8 @@
 
 pub use laws::{
     law_assignments, law_control, law_deaths, law_depth, law_drops, law_ends, law_first_drop,
-    law_heap, law_line, law_loads, law_no_place, law_overruns, law_pointers, law_scalars,
-    law_stores, law_strays,
+    law_heap, law_line, law_loads, law_no_place, law_outside, law_overruns, law_pointers,
+    law_scalars, law_stores, law_strays, law_values,
 };
 
 mod laws;
