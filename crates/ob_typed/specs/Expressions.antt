@@ -9,11 +9,12 @@ use Rattle.ob_tree.specs.Types.{PlainType, PlainMember, PlainStructs}
 use Rattle.ob_tree.specs.Types.{PlainType as type}
 use Rattle.ob_typed.specs.TypedTree.{TypedExpr as expr, TypedNode as node}
 use Rattle.ob_typed.specs.Faults.{Answer, Walk, next, by}
-use Rattle.ob_typed.specs.Scopes.{Known, Env, Meaning, Declared, find}
+use Rattle.ob_typed.specs.Scopes.{among_members, Known, Env, Meaning, Declared, find}
 use Rattle.ob_typed.specs.Scopes.{Meaning as meaning}
 use Rattle.ob_typed.specs.Conversions.{Checked, type_of, value}
 use Rattle.ob_typed.specs.Conversions.{Checked as checked}
-use Rattle.ob_typed.specs.Marks.{first_of, mark_of}
+use Rattle.ob_tree.specs.Levels.{mark_of}
+use Rattle.ob_typed.specs.Marks.{first_of}
 use Rattle.ob_typed.specs.Strings.{joined_bytes, string}
 use Rattle.ob_typed.specs.PostfixRules.{Argument, number, name_rule, index_rule, member_rule, arrow_rule, step_rule, call_rule}
 use Rattle.ob_typed.specs.UnaryRules.{unary_rule, size_rule, cast_rule}
@@ -92,7 +93,7 @@ abbrev mutual
   check_spec env (spec.Tag first name) k = Ok (mentioned name env.depth k)
   check_spec env (spec.Struct first tag ms) k =
       let o = opened tag env.depth k in
-      next (check_members env [] ms o.1) (λ found k1. with_structs o.0 (closed k1.structs o.0 (struct_place tag first) found) k1)
+      next (check_members (among_members env o.0) [] ms o.1) (λ found k1. with_structs o.0 (closed env.around k1.structs o.0 (struct_place tag first) found) k1)
 
   -- the members of a structure (6.7.2.1), after those before them
   pub check_members : Env → (done : List PlainMember) → MemberTrees → Known → Walk Known (List PlainMember)

@@ -35,7 +35,7 @@ with_parameters depth n ds (p ∷ ps) = with_parameters depth (n + 1) (with_para
 -- one block further in, where these parameters are declared
 abbrev pub parameter_env : Env → List Parameter → Env
 parameter_env env ps =
-    record { declared = with_parameters (suc env.depth) 0 env.declared ps; depth = suc env.depth; bodies = env.bodies }
+    record { declared = with_parameters (suc env.depth) 0 env.declared ps; depth = suc env.depth; bodies = env.bodies; around = env.around }
 
 abbrev pub is_declared_here : Env → Option (List ℕ) → Bool
 is_declared_here env None = false

@@ -15,7 +15,8 @@ use Rattle.ob_typed.specs.TypeTests.{is_char, is_unusable, is_void}
 use Rattle.ob_typed.specs.Conversions.{Checked, as_type, fits, value, value_type}
 use Rattle.ob_typed.specs.Conversions.{Checked as checked}
 use Rattle.ob_typed.specs.AddressConstants.{is_static_value}
-use Rattle.ob_typed.specs.Marks.{mark_of, first_of_init}
+use Rattle.ob_tree.specs.Levels.{mark_of}
+use Rattle.ob_typed.specs.Marks.{first_of_init}
 use Rattle.ob_typed.specs.Strings.{joined_bytes}
 use Rattle.ob_typed.specs.Expressions.{check}
 

@@ -3,10 +3,11 @@ use Rattle.std.specs.Prelude.{pos, false, Some, [], ◌∷◌}
 use Rattle.ob_words.specs.declared.types.IntType.TheVariants as int
 use Rattle.ob_tree.specs.declared.tokens.Keyword.TheVariants as word
 use Rattle.ob_tree.specs.declared.tokens.Sign.TheVariants as sign
-use Rattle.ob_tree.specs.Trees.{ExprTree as tree, ExprTrees as trees, SpecTree as spec, ObjTree as declarator, DimTrees as dims, InitTree as init, InitTrees as inits, Infix as joint}
+use Rattle.ob_tree.specs.Trees.{ExprTree as tree, ExprTrees as trees, SpecTree as spec, MemberTrees as members, ObjTree as declarator, ObjTrees as declarators, DimTrees as dims, InitTree as init, InitTrees as inits, Infix as joint}
 use Rattle.ob_tree.specs.Programs.{ProgramTree}
 use Rattle.ob_tree.specs.Programs.{StmtTree as source, BlockTrees as items, ParamsTree as params, FileTree as file, ItemTree as item}
 use Rattle.ob_typed.specs.Examples.{mark, param}
+use Rattle.ob_typed.specs.Faults.{no_place}
 
 -- A list for a number.
 --     int x = {1};
@@ -159,5 +160,37 @@ called_without_body =
     (source.Block 11 1
     (items.Statement
     (source.Return 12 1 (Some (tree.Call (mark 13 13 1) (102 ∷ []) trees.NoArguments)))
+    items.NoItems)))
+    ∷ [])
+
+-- Two member lists of one tag, the second within the first.
+--     struct s {struct s {int a;} x; int b;} y;
+abbrev pub nested_lists : ProgramTree
+nested_lists =
+    ((item.Decls 0 1 false
+    (spec.Struct 0 (Some (115 ∷ []))
+    (members.MemberLine
+    (spec.Struct 3 (Some (115 ∷ []))
+    (members.MemberLine
+    (spec.Integer 6 (word.Int ∷ []))
+    (declarators.Declarator (declarator.Bare 0 (97 ∷ []) 7 dims.NoDims) declarators.NoDeclarators)
+    members.NoMembers))
+    (declarators.Declarator (declarator.Bare 0 (120 ∷ []) 10 dims.NoDims) declarators.NoDeclarators)
+    (members.MemberLine
+    (spec.Integer 12 (word.Int ∷ []))
+    (declarators.Declarator (declarator.Bare 0 (98 ∷ []) 13 dims.NoDims) declarators.NoDeclarators)
+    members.NoMembers)))
+    ((file.Object (declarator.Bare 0 (121 ∷ []) 16 dims.NoDims)) ∷ []))
+    ∷ [])
+
+-- A member that there isn't, in a tree without places.
+--     void f(int x){x.a;}
+abbrev pub member_without_place : ProgramTree
+member_without_place =
+    ((item.Function 0 1 false (spec.Void 0) 0 (102 ∷ []) 1
+    (params.Listed ((param 3 1 (spec.Integer 3 (word.Int ∷ [])) 0 (Some (120 ∷ [])) 4 dims.NoDims) ∷ []))
+    (source.Block 6 1
+    (items.Statement
+    (source.Expr no_place 0 (Some (tree.Member (mark no_place no_place 0) (tree.Name (mark no_place no_place 0) (120 ∷ [])) (97 ∷ []))))
     items.NoItems)))
     ∷ [])

@@ -4,6 +4,7 @@
 use Rattle.std.specs.Prelude.{ℕ, suc, Bool, false, nat_eq, if◌then◌else◌, Option, Some, None, List, [], ◌∷◌}
 use Rattle.std.specs.Str.{bytes_eq}
 use Rattle.ob_tree.specs.Types.{PlainType, PlainStructs}
+use Rattle.ob_tree.specs.Types.{PlainType as type}
 use Rattle.ob_typed.specs.declared.names.Builtin.{Builtin}
 use Rattle.ob_typed.specs.TypedTree.{TypedLean, TypedObject}
 
@@ -58,22 +59,28 @@ pub record Known : Type 0 where
   pub statics : List TypedObject
   pub calls : List Called
 
--- What stays the same in an expression: the declarations in force, the depth of the block, and the names of
--- the functions with a body, by which functions are numbered.
+-- What stays the same in an expression: the declarations in force, the depth of the block, the names of the
+-- functions with a body, by which functions are numbered, and the structures whose member lists this stands in.
 pub record Env : Type 0 where
   pub declared : List Declared
   pub depth : ℕ
   pub bodies : List (List ℕ)
+  pub around : List ℕ
 
 -- one block further in
 abbrev pub deeper : Env → Env
-deeper env = record { declared = env.declared; depth = suc env.depth; bodies = env.bodies }
+deeper env = record { declared = env.declared; depth = suc env.depth; bodies = env.bodies; around = env.around }
 
 abbrev pub with_declared : Env → List Declared → Env
-with_declared env ds = record { declared = ds; depth = env.depth; bodies = env.bodies }
+with_declared env ds = record { declared = ds; depth = env.depth; bodies = env.bodies; around = env.around }
 
 abbrev pub declaring : Env → Declared → Env
 declaring env d = with_declared env (d ∷ env.declared)
+
+-- within the member list of a structure
+abbrev pub among_members : Env → PlainType → Env
+among_members env (type.Struct n) = record { declared = env.declared; depth = env.depth; bodies = env.bodies; around = n ∷ env.around }
+among_members env t = env
 
 -- after a block the tags before it are in force again
 abbrev pub leaving : (before after : Known) → Known

@@ -1,5 +1,5 @@
 -- Type specifiers and declarators (C99 6.7.2, 6.7.5, 6.7.6): the rule of each.
-use Rattle.std.specs.Prelude.{ℕ, zero, suc, ◌+◌, ℤ, pos, Bool, true, false, ◌||◌, if◌then◌else◌, Option, Some, None, Ok, Err, List, [], ◌∷◌, ◌++◌, length, slice_get, slice_set, unsigned_abs}
+use Rattle.std.specs.Prelude.{ℕ, zero, suc, ℤ, pos, Bool, true, false, nat_eq, ◌||◌, if◌then◌else◌, Option, Some, None, Ok, Err, List, [], ◌∷◌, ◌++◌, length, slice_get, slice_set, unsigned_abs}
 use Rattle.std.specs.Prelude.{int_lt}
 use Rattle.std.specs.Str.{bytes_eq}
 use Rattle.ob_words.specs.declared.types.IntType.{IntType}
@@ -14,7 +14,7 @@ use Rattle.ob_tree.specs.Types.{PlainType as type}
 use Rattle.ob_tree.specs.Sizes.{is_complete}
 use Rattle.ob_typed.specs.Completeness.{is_object_type, is_sized}
 use Rattle.ob_typed.specs.TypedTree.{TypedExpr}
-use Rattle.ob_typed.specs.Faults.{Answer, fault}
+use Rattle.ob_typed.specs.Faults.{Answer, behind, fault}
 use Rattle.ob_typed.specs.Scopes.{Known, TagDeclared, find_tag, tag_at}
 use Rattle.ob_typed.specs.TypeTests.{is_unusable}
 use Rattle.ob_typed.specs.ConstantValues.{constant}
@@ -79,14 +79,19 @@ with_members structs n ms = slice_set structs n (record { complete = true; membe
 -- the place that faults of a structure stand at: its tag, which follows the word `struct`, else that word
 abbrev pub struct_place : Option (List ℕ) → (first : ℕ) → ℕ
 struct_place None first = first
-struct_place (Some name) first = first + 1
+struct_place (Some name) first = behind first
 
--- the structures with the members of one of them, where it had none and isn't too great
-abbrev pub closed : PlainStructs → PlainType → (at : ℕ) → List PlainMember → Answer PlainStructs
-closed structs (type.Struct n) at ms =
-    if is_complete_row (slice_get structs n) then fault kind.Twice at
+abbrev pub is_around : (number : ℕ) → List ℕ → Bool
+is_around n [] = false
+is_around n (m ∷ ms) = nat_eq m n || is_around n ms
+
+-- The structures with the members of one of them, where it had none and isn't too great. A member list within one
+-- of the same structure is the second of the two.
+abbrev pub closed : (around : List ℕ) → PlainStructs → PlainType → (at : ℕ) → List PlainMember → Answer PlainStructs
+closed around structs (type.Struct n) at ms =
+    if is_complete_row (slice_get structs n) || is_around n around then fault kind.Twice at
     else (if is_complete (with_members structs n ms) (type.Struct n) then Ok (with_members structs n ms) else fault kind.Constant at)
-closed structs _ at ms = Ok structs
+closed around structs _ at ms = Ok structs
 
 -- ---- declarators (6.7.5): stars, then the brackets; an array without a length has the length 0
 

@@ -13,7 +13,7 @@ use Rattle.ob_typed.specs.Faults.{Answer, Walk, fault, next, by}
 use Rattle.ob_typed.specs.Scopes.{Env, deeper, leaving}
 use Rattle.ob_typed.specs.TypeTests.{is_scalar, is_struct, is_unusable}
 use Rattle.ob_typed.specs.Conversions.{Checked, as_type, fits, value, value_type}
-use Rattle.ob_typed.specs.Marks.{mark_of}
+use Rattle.ob_tree.specs.Levels.{mark_of}
 use Rattle.ob_typed.specs.Expressions.{check}
 use Rattle.ob_typed.specs.Declarations.{Body, Entered, with_known, in_body, check_declaration}
 

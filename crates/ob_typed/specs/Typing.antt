@@ -15,7 +15,7 @@ use Rattle.ob_typed.specs.declared.names.Builtin.{Builtin}
 use Rattle.ob_typed.specs.declared.names.Builtin.TheVariants as builtin
 use Rattle.ob_typed.specs.TypedTree.{TypedFunction, TypedProgram, TypedStmt}
 use Rattle.ob_typed.specs.TypedTree.{TypedStmt as stmt}
-use Rattle.ob_typed.specs.Faults.{Answer, Fault, Walk, fault, then_rule, next, by}
+use Rattle.ob_typed.specs.Faults.{Answer, Fault, Walk, fault, no_place, then_rule, next, by}
 use Rattle.ob_typed.specs.Scopes.{Called, Declared, Env, Known, leaving}
 use Rattle.ob_typed.specs.Scopes.{Meaning as meaning}
 use Rattle.ob_typed.specs.TypeTests.{same_type}
@@ -51,10 +51,6 @@ builtins =
 abbrev pub main_name : List ℕ
 main_name = 109 ∷ 97 ∷ 105 ∷ 110 ∷ []
 
--- a place that no token has, which the trees of library functions have everywhere
-abbrev pub no_place : ℕ
-no_place = 4294967295
-
 -- the functions with a body, in order
 abbrev pub body_names : ProgramTree → List (List ℕ)
 body_names [] = []
@@ -62,7 +58,7 @@ body_names (item.Function first line fixed s stars name at ps body ∷ is) = nam
 body_names (item.Decls first line fixed s ds ∷ is) = body_names is
 
 abbrev pub file_env : (bodies : List (List ℕ)) → List Declared → Env
-file_env bodies ds = record { declared = ds; depth = 0; bodies = bodies }
+file_env bodies ds = record { declared = ds; depth = 0; bodies = bodies; around = [] }
 
 abbrev pub function_names : List TypedFunction → List (List ℕ)
 function_names fs = map (λ f. f.name) fs
@@ -92,7 +88,7 @@ abbrev pub body_of : Head → Known → Body
 body_of h k = record { known = k; locals = parameter_types h.params; names = parameter_names h.params }
 
 abbrev pub body_env : (bodies : List (List ℕ)) → Head → Env
-body_env bodies h = record { declared = with_parameters 1 0 h.declared h.params; depth = 1; bodies = bodies }
+body_env bodies h = record { declared = with_parameters 1 0 h.declared h.params; depth = 1; bodies = bodies; around = [] }
 
 abbrev pub function_of : (name : List ℕ) → Head → (nodes : ℕ) → Body → TypedStmt → TypedFunction
 function_of name h n b s = record {

@@ -2,13 +2,14 @@
 
 ghost use Rattle.ob_tree.specs.declared.faults.TypeKind.TheVariants as kinds;
 ghost use Rattle.ob_typed.specs.Examples.{at};
+ghost use Rattle.ob_typed.specs.Faults.{no_place};
 ghost use Rattle.ob_typed.specs.FaultExamples.{undeclared_name, parts_first, two_objects, two_members, own_putchar, void_object, endless_structure, size_of_void, number_assigned, array_assigned, pointer_times, void_pointed_to, number_for_pointer, string_in_braces, no_argument, third_item, long_string};
-ghost use Rattle.ob_typed.specs.MoreFaultExamples.{list_for_number, called_object, function_as_value, member_of_int, no_elements, length_divides, great_array, variable_value, break_alone, value_of_void, no_main, main_of_char, called_without_body};
+ghost use Rattle.ob_typed.specs.MoreFaultExamples.{list_for_number, called_object, function_as_value, member_of_int, no_elements, length_divides, great_array, variable_value, break_alone, value_of_void, no_main, main_of_char, called_without_body, nested_lists, member_without_place};
 ghost use Rattle.ob_typed.specs.SourceExamples.{conversions, elements, lines, recursion, strings};
 ghost use Rattle.ob_typed.specs.TypedExamples.{typed_conversions, typed_elements, typed_lines, typed_recursion, typed_strings};
 ghost use Rattle.ob_typed.specs.Typing.{FirstTypeFault, Types};
 
-/// The first faults of thirty programs, of each kind at least one, with the place of a token: what each
+/// The first faults of thirty-two programs, of each kind at least one, with the place of a token: what each
 /// program is stands beside it.
 pub fn law_first_faults()
     ensures undeclared_name { FirstTypeFault undeclared_name (at kinds.Unknown 7) }
@@ -41,6 +42,8 @@ pub fn law_first_faults()
     ensures no_main { FirstTypeFault no_main (at kinds.NoBody 4294967295) }
     ensures main_of_char { FirstTypeFault main_of_char (at kinds.NoBody 1) }
     ensures called_without_body { FirstTypeFault called_without_body (at kinds.NoBody 13) }
+    ensures nested_lists { FirstTypeFault nested_lists (at kinds.Twice 4) }
+    ensures member_without_place { FirstTypeFault member_without_place (at kinds.Member no_place) }
 {}
 
 /// The typed trees of five programs.
