@@ -69,7 +69,6 @@ module _ (image : Image) (settings : RunSettings) (cycle : List ℕ) where
   written_then : (f : Execution) (input written written' : List ℕ) (b : Beside) → state_of f (having_written input written' (having_written input written b)) ≡ state_of f (having_written input (written ++ written') b)
   written_then f input written written' b = ap (λ output. state_of f (record b { input = input; output = output })) (append_assoc b.output written written')
 
-
   -- the run before an instruction, on what was read until after it
   before_step : (limit n : ℕ) (e f h : Execution) (d d' d'' : Devices) (answer : Option Ending) (g : Going limit (suc n) e f d d') (a : Advances (does image settings cycle) (begun f) h d' d'' answer) (input_end : InputEnd) (more : List ℕ) (b : Beside) → CanFollow d''.unread more input_end → run limit input_end (reading e (d.unread.bytes ++ ((g.read ++ a.read) ++ more)) b) ≡ after (does image settings cycle input_end (reading (begun f) (d'.unread.bytes ++ (a.read ++ more)) (having_written (d'.unread.bytes ++ (a.read ++ more)) g.written b))) (run n input_end)
   before_step limit n e f h d d' d'' answer g a input_end more b can =

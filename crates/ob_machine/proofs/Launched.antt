@@ -89,7 +89,6 @@ module _ (m after' : MachineState) (cycle : List ℕ) (place steps : ℕ) (answe
   cut_short closed is input = cc
   cut_short failed is input = input.cause
 
-
   pub read_cause : answer ≡ ReadFault → Rose r.faults_before r.faults_now
   read_cause is = by_coming h.comes_to can_end
     where

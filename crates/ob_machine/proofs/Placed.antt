@@ -163,8 +163,7 @@ call_link image (c ∷ cs) at a b imm v here is =
     let operands = (sound_there image c.function at (instr.Call a b imm) v here is).0 in
     let back : at + 1 - 1 ≡ at = omega arith in
     let named : machine.result_word (slice_get image.code (at + 1 - 1)) ≡ a = ap (λ k. machine.result_word (slice_get image.code k)) back ∙ ap machine.result_word is in
-    let next = next_place image c.function at (instr.Call a b imm) v here is (λ x. x) in
-    (
+    let next = next_place image c.function at (instr.Call a b imm) v here is (λ x. x) in (
       below (length image.functions) imm operands.2,
       record { positive = omega arith; within = in_code image c.function (at + 1) v next; in_code = next; result = subst (IsWritten (words_of image c.function)) (sym named) operands.0 },
     )

@@ -65,7 +65,6 @@ at_zero : (end : InputEnd) (s : State) (w : ℕ) (x y : Next) → Tells end s x 
 at_zero end s zero x y p q = p
 at_zero end s (suc w) x y p q = q
 
-
 pub entering : (end : InputEnd) (s : State) (image : Image) (f link : ℕ) (arguments : List ℕ) (t : State) → IsAfter s t → Tells end s (machine.entering image f link arguments t)
 entering end s image f link arguments t h =
     either end s (is_full image.functions f t.space.calls) (stops ending.Stack t)

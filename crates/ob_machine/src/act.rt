@@ -57,7 +57,13 @@ impl Execution {
     }
 
     /// Takes a step, and calls a function with the words from `b` on.
-    fn tick_and_call(&mut self, image: &Image, imm: i64, b: u32, arguments: &mut Vec<u64>) -> Option<Ending>
+    fn tick_and_call(
+        &mut self,
+        image: &Image,
+        imm: i64,
+        b: u32,
+        arguments: &mut Vec<u64>,
+    ) -> Option<Ending>
         requires verified { IsVerified image.now }
         requires ready { IsReady image.now self.old }
         requires known { unsigned_abs imm < length image.now.functions }

@@ -52,7 +52,13 @@ fn named_word(code: &[Instr], at: u64) -> u32
 
 impl Execution {
     /// Enters a function with arguments, where the stack has room.
-    pub(crate) fn enter(&mut self, image: &Image, f: u32, link: u64, arguments: &[u64]) -> Option<Ending>
+    pub(crate) fn enter(
+        &mut self,
+        image: &Image,
+        f: u32,
+        link: u64,
+        arguments: &[u64],
+    ) -> Option<Ending>
         requires rows { self.old.space.functions ≡ image.now.functions }
         requires known { f < length image.now.functions }
         requires arguments { 2 + length arguments.now ≤ (function_at image.now.functions f).words }
@@ -71,7 +77,13 @@ impl Execution {
     }
 
     /// Calls a function with the words from `b` on.
-    pub(crate) fn call(&mut self, image: &Image, f: u32, b: u32, arguments: &mut Vec<u64>) -> Option<Ending>
+    pub(crate) fn call(
+        &mut self,
+        image: &Image,
+        f: u32,
+        b: u32,
+        arguments: &mut Vec<u64>,
+    ) -> Option<Ending>
         requires rows { self.old.space.functions ≡ image.now.functions }
         requires known { f < length image.now.functions }
         requires inside { b + (function_at image.now.functions f).params ≤ top_words self.old.space }

@@ -57,7 +57,14 @@ impl Execution {
     }
 
     /// Computes with two words in a type.
-    pub(crate) fn binary(&mut self, operator: BinOp, t: IntType, a: u32, b: u32, c: u32) -> Option<Ending>
+    pub(crate) fn binary(
+        &mut self,
+        operator: BinOp,
+        t: IntType,
+        a: u32,
+        b: u32,
+        c: u32,
+    ) -> Option<Ending>
         requires written { IsWritten (top_words self.old.space) a }
         requires left { b < top_words self.old.space }
         requires right { c < top_words self.old.space }

@@ -57,7 +57,13 @@ fn byte_word(byte: Option<u8>) -> u64
 
 impl Execution {
     /// Takes a step, and reads a byte into word `a`, or -1 at the end of the input.
-    pub(crate) fn get_char<S: Source, K: Sink>(&mut self, ports: &mut Ports, source: &mut S, sink: &mut K, a: u32) -> Result<Option<Ending>, Fault>
+    pub(crate) fn get_char<S: Source, K: Sink>(
+        &mut self,
+        ports: &mut Ports,
+        source: &mut S,
+        sink: &mut K,
+        a: u32,
+    ) -> Result<Option<Ending>, Fault>
         requires written { IsWritten (top_words self.old.space) a }
         requires counter { self.old.counter < 2 ^ 32 }
         requires end { KnowsEnd ports.old.input (S.left source.old) }

@@ -36,7 +36,14 @@ impl Execution {
     }
 
     /// Does at most `limit` instructions.
-    fn go<S: Source, K: Sink>(&mut self, image: &Image, ports: &mut Ports, source: &mut S, sink: &mut K, limit: u64) -> Result<Ending, Fault>
+    fn go<S: Source, K: Sink>(
+        &mut self,
+        image: &Image,
+        ports: &mut Ports,
+        source: &mut S,
+        sink: &mut K,
+        limit: u64,
+    ) -> Result<Ending, Fault>
         requires verified { IsVerified image.now }
         requires built { IsBuilt image.now }
         requires ready { IsReady image.now self.old }
@@ -66,7 +73,14 @@ impl Execution {
     }
 
     /// Starts a run, and does at most `limit` instructions.
-    pub(crate) fn run<S: Source, K: Sink>(&mut self, image: &Image, ports: &mut Ports, source: &mut S, sink: &mut K, limit: u64) -> Result<Ending, Fault>
+    pub(crate) fn run<S: Source, K: Sink>(
+        &mut self,
+        image: &Image,
+        ports: &mut Ports,
+        source: &mut S,
+        sink: &mut K,
+        limit: u64,
+    ) -> Result<Ending, Fault>
         requires verified { IsVerified image.now }
         requires built { IsBuilt image.now }
         requires rows { self.old.space.functions ≡ image.now.functions }
@@ -87,7 +101,14 @@ impl Execution {
     }
 
     /// Starts a run, does at most `limit` instructions, and sends what is pending.
-    pub(crate) fn run_out<S: Source, K: Sink>(&mut self, image: &Image, ports: &mut Ports, source: &mut S, sink: &mut K, limit: u64) -> Ending
+    pub(crate) fn run_out<S: Source, K: Sink>(
+        &mut self,
+        image: &Image,
+        ports: &mut Ports,
+        source: &mut S,
+        sink: &mut K,
+        limit: u64,
+    ) -> Ending
         requires verified { IsVerified image.now }
         requires built { IsBuilt image.now }
         requires rows { self.old.space.functions ≡ image.now.functions }

@@ -17,7 +17,13 @@ use ob_model::Ending;
 
 impl Execution {
     /// Does one instruction. It takes no memory.
-    pub(crate) fn step<S: Source, K: Sink>(&mut self, image: &Image, ports: &mut Ports, source: &mut S, sink: &mut K) -> Result<Option<Ending>, Fault>
+    pub(crate) fn step<S: Source, K: Sink>(
+        &mut self,
+        image: &Image,
+        ports: &mut Ports,
+        source: &mut S,
+        sink: &mut K,
+    ) -> Result<Option<Ending>, Fault>
         requires verified { IsVerified image.now }
         requires built { IsBuilt image.now }
         requires ready { IsReady image.now self.old }

@@ -14,6 +14,6 @@ returns-clause-state c =
       byte,
       c.push.ensures ∙ ap (λ w. c.args.output.now ++ w % 256 ∷ []) c.word.ensures,
       ticked_once e.steps (state_of e r) (λ t. put_char (get t c.args.b % 256) c.args.a t) c.if-self-eq0.false
-      ∙ ap (set_word (state_of (record e { steps = e.steps - 1 }) (record r { output = r.output ++ byte ∷ [] })) c.args.a) (sym read)
-      ∙ c.set_word.ensures.state (record r { output = r.output ++ byte ∷ [] }),
+          ∙ ap (set_word (state_of (record e { steps = e.steps - 1 }) (record r { output = r.output ++ byte ∷ [] })) c.args.a) (sym read)
+          ∙ c.set_word.ensures.state (record r { output = r.output ++ byte ∷ [] }),
     )
