@@ -9,3 +9,4 @@ pub mod CompleteNames
 pub mod CompleteStates
 pub mod Full
 pub mod Climbs
+pub mod ReachParams
