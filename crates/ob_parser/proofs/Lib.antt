@@ -8,3 +8,5 @@ pub mod Complete
 pub mod CompleteNames
 pub mod CompleteStates
 pub mod Full
+pub mod Climbs
+pub mod ReachParams

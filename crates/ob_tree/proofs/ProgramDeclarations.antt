@@ -32,7 +32,7 @@ spec-declares (kind.Word word.Static) h = refl
 spec-declares (kind.Word w) h = h
 spec-declares _ h = absurd h
 
-begin-spec : (m : Mark) (k : TokenKind) (o : Owner) → BeginsSpec k
+pub begin-spec : (m : Mark) (k : TokenKind) (o : Owner) → BeginsSpec k
     → begin_declaration m k o ≡ step m k (Specifying (ForDeclaration (heading o m false)) (expr.Specifier []))
 begin-spec m (kind.Word word.Static) o h = let e : false ≡ true = h in cc
 begin-spec m (kind.Word w) o h = refl
@@ -58,7 +58,7 @@ read-head lines o true spec s p v same =
     before read-spec lines (ForDeclaration h) spec (p + 1) v
 
 -- Objects as declarators.
-abbrev files : ObjTrees → List FileTree
+abbrev pub files : ObjTrees → List FileTree
 files ObjTrees.NoDeclarators = []
 files (ObjTrees.Declarator o os) = FileTree.Object o ∷ files os
 
@@ -66,32 +66,32 @@ more-files : (os : ObjTrees) → more_listed spell_file (files os) ≡ spell_mor
 more-files ObjTrees.NoDeclarators = refl
 more-files (ObjTrees.Declarator o os) = ap (λ ks. kind.Sign sign.Comma ∷ (spell_obj o ++ ks)) (more-files os)
 
-all-files : (os : ObjTrees) → listed spell_file (files os) ≡ spell_objs os
+pub all-files : (os : ObjTrees) → listed spell_file (files os) ≡ spell_objs os
 all-files ObjTrees.NoDeclarators = refl
 all-files (ObjTrees.Declarator o os) = ap (λ ks. spell_obj o ++ ks) (more-files os)
 
-objects-files : (os : ObjTrees) → objects (files os) ≡ os
+pub objects-files : (os : ObjTrees) → objects (files os) ≡ os
 objects-files ObjTrees.NoDeclarators = refl
 objects-files (ObjTrees.Declarator o os) = ap (ObjTrees.Declarator o) (objects-files os)
 
-place-files : (lines : ℕ → ℕ) (p : ℕ) (os : ObjTrees) → place_files lines p (files os) ≡ files (place_objs lines p os)
+pub place-files : (lines : ℕ → ℕ) (p : ℕ) (os : ObjTrees) → place_files lines p (files os) ≡ files (place_objs lines p os)
 place-files lines p ObjTrees.NoDeclarators = refl
 place-files lines p (ObjTrees.Declarator o os) = ap (λ xs. FileTree.Object (place_obj lines p o) ∷ xs) (place-files lines (p + width_obj o + 1) os)
 
-valid-more : (os : ObjTrees) → ValidObjs os → AllByRecursion ValidFile (files os)
+pub valid-more : (os : ObjTrees) → ValidObjs os → AllByRecursion ValidFile (files os)
 valid-more ObjTrees.NoDeclarators v = tt
 valid-more (ObjTrees.Declarator o os) v = (v.0, valid-more os v.1)
 
-valid-files : (s : SpecTree) (os : ObjTrees) → ValidNames s os → ValidFiles s (files os)
+pub valid-files : (s : SpecTree) (os : ObjTrees) → ValidNames s os → ValidFiles s (files os)
 valid-files s ObjTrees.NoDeclarators v = v
 valid-files s (ObjTrees.Declarator o os) v = (v.0, valid-more os v.1)
 
-may-declare : (o : Owner) (os : ObjTrees) → AllByRecursion (MayDeclare o) (files os)
+pub may-declare : (o : Owner) (os : ObjTrees) → AllByRecursion (MayDeclare o) (files os)
 may-declare o ObjTrees.NoDeclarators = tt
 may-declare o (ObjTrees.Declarator x os) = (tt, may-declare o os)
 
 -- the declarators of a declaration in a block, up to the semicolon
-read-objs : (lines : ℕ → ℕ) (h : Heading) (s : SpecTree) (r : ℕ) (os : ObjTrees) (p : ℕ) → ValidNames s os
+pub read-objs : (lines : ℕ → ℕ) (h : Heading) (s : SpecTree) (r : ℕ) (os : ObjTrees) (p : ℕ) → ValidNames s os
     → Reads lines p (spell_objs os ++ kind.Sign sign.Semi ∷ []) (Specifying (ForDeclaration h) (expr.AfterSpec (place_spec lines r s) []))
     (p + length (spell_objs os ++ kind.Sign sign.Semi ∷ []))
     (end_declaration (record { heading = h; spec = place_spec lines r s; names = files (place_objs lines p os) }))
@@ -124,7 +124,7 @@ read-local lines f n items fs l s p v same =
     )
     )
 
-for-starts : (m : Mark) (k : TokenKind) (f n : ℕ) (fs : List Frame) → BeginsSpec k
+pub for-starts : (m : Mark) (k : TokenKind) (f n : ℕ) (fs : List Frame) → BeginsSpec k
     → step m k (ForOpen f n fs) ≡ step m k (Specifying (ForDeclaration (heading (Start f n fs) m false)) (expr.Specifier []))
 for-starts m (kind.Word w) f n fs h =
     let s = Specifying (ForDeclaration (heading (Start f n fs) m false)) (expr.Specifier []) in

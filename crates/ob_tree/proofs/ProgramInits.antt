@@ -125,7 +125,7 @@ read-open-dims lines h (DimTrees.Unsized ds) p v =
     )
 
 -- Initialisers.
-abbrev append_inits : InitTrees → InitTrees → InitTrees
+abbrev pub append_inits : InitTrees → InitTrees → InitTrees
 append_inits InitTrees.NoItems is = is
 append_inits (InitTrees.Item x xs) is = InitTrees.Item x (append_inits xs is)
 
@@ -137,7 +137,7 @@ inits-more : (xs : InitTrees) (i : InitTree) (is : InitTrees) → append_inits (
 inits-more InitTrees.NoItems i is = refl
 inits-more (InitTrees.Item x xs) i is = ap (InitTrees.Item x) (inits-more xs i is)
 
-added : (xs : InitTrees) (i : InitTree) → has_items (add_init xs i) ≡ true
+pub added : (xs : InitTrees) (i : InitTree) → has_items (add_init xs i) ≡ true
 added InitTrees.NoItems i = refl
 added (InitTrees.Item x xs) i = refl
 
@@ -150,12 +150,12 @@ pub init-ends : (lines : ℕ → ℕ) (t : Target) (is : List Braces) (i : InitT
 init-ends lines t is (InitTree.Value e) p m k v h = expr-ends (Item t is) m k (place lines p e) (valid-place lines p e v.0) h
 init-ends lines t is (InitTree.Braces f items comma) p m k v h = refl
 
-init-starts : (t : Target) (is : List Braces) (m : Mark) (k : TokenKind) → StartsExpr k → step m k (Init t is) ≡ step m k (Reading (Item t is) (expr.Operand []))
+pub init-starts : (t : Target) (is : List Braces) (m : Mark) (k : TokenKind) → StartsExpr k → step m k (Init t is) ≡ step m k (Reading (Item t is) (expr.Operand []))
 init-starts t is m (kind.Sign sign.OpenBrace) s = absurd s
 init-starts t is m (kind.Sign x) s = optional-starts (Item t is) m (kind.Sign x) s
 init-starts t is m k s = optional-starts (Item t is) m k s
 
-comma-close : (m : Mark) (t : Target) (is : List Braces) (f : ℕ) (xs : InitTrees) (i : InitTree)
+pub comma-close : (m : Mark) (t : Target) (is : List Braces) (f : ℕ) (xs : InitTrees) (i : InitTree)
     → step m (kind.Sign sign.CloseBrace) (Init t (record { first = f; items = add_init xs i } ∷ is)) ≡ Some (AfterInit t is (InitTree.Braces f (add_init xs i) true))
 comma-close m t is f xs i =
     let u = Item t (record { first = f; items = add_init xs i } ∷ is) in

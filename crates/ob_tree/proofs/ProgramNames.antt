@@ -35,7 +35,7 @@ abbrev pub MayDeclare : Owner → FileTree → Type 0
 MayDeclare o (FileTree.Function n name a ps) = IsOuter o
 MayDeclare o (FileTree.Object x) = Unit {0}
 
-outer-parameters : (o : Owner) (x : Declarator) → IsOuter o → parameters o x ≡ Some (Params (record { function = x; params = [] }))
+pub outer-parameters : (o : Owner) (x : Declarator) → IsOuter o → parameters o x ≡ Some (Params (record { function = x; params = [] }))
 outer-parameters (Outer items) x h = refl
 outer-parameters (Inner f n items fs) x h = absurd h
 outer-parameters (Start f n fs) x h = absurd h
@@ -157,7 +157,7 @@ pub stars-first : (n : ℕ) (name : List ℕ) (ks : List TokenKind) → FirstOf 
 stars-first zero name ks = record { token = kind.Name name; rest = ks; are = refl; fits = tt }
 stars-first (suc n) name ks = record { token = kind.Sign sign.Star; rest = stars n ++ kind.Name name ∷ ks; are = refl; fits = tt }
 
-file-first : (x : FileTree) → FirstOf StartsName (spell_file x)
+pub file-first : (x : FileTree) → FirstOf StartsName (spell_file x)
 file-first (FileTree.Function n name a ps) = stars-first n name _
 file-first (FileTree.Object (ObjTree.Bare n name a ds)) = stars-first n name _
 file-first (FileTree.Object (ObjTree.Initial n name a ds i)) = stars-first n name _
@@ -172,7 +172,7 @@ pub tagged : (tag : Option (List ℕ)) → HasTag tag → is_tagged tag ≡ true
 tagged None h = absurd h
 tagged (Some tag) h = refl
 
-tag-declared : (lines : ℕ → ℕ) (p : ℕ) (s : SpecTree) → DeclaresTag s → declares_tag (place_spec lines p s) ≡ true
+pub tag-declared : (lines : ℕ → ℕ) (p : ℕ) (s : SpecTree) → DeclaresTag s → declares_tag (place_spec lines p s) ≡ true
 tag-declared lines p (SpecTree.Void f) h = absurd h
 tag-declared lines p (SpecTree.SizeT f) h = absurd h
 tag-declared lines p (SpecTree.Integer f ws) h = absurd h

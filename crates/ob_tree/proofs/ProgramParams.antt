@@ -23,22 +23,22 @@ use Rattle.ob_tree.proofs.ProgramRuns.{Reads, nothing, token, ◌before◌, coun
 use Rattle.ob_tree.proofs.ProgramInits.{read-open-dims}
 
 -- A token that ends a parameter.
-abbrev EndsParam : TokenKind → Type 0
+abbrev pub EndsParam : TokenKind → Type 0
 EndsParam (kind.Sign sign.Comma) = Unit {0}
 EndsParam (kind.Sign sign.CloseParen) = Unit {0}
 EndsParam k = ⊥
 
 -- The tokens lead to what is behind this parameter.
-record ReadsParam (lines : ℕ → ℕ) (p : ℕ) (tokens : List TokenKind) (s : State) (l : Listing) (x : ParamTree) : Type 0 where
-  behind : State
-  reads : Reads lines p tokens s (p + length tokens) behind
-  ends : (m : Mark) (k : TokenKind) → EndsParam k → step m k behind ≡ next_param k (add_param l x)
+pub record ReadsParam (lines : ℕ → ℕ) (p : ℕ) (tokens : List TokenKind) (s : State) (l : Listing) (x : ParamTree) : Type 0 where
+  pub behind : State
+  pub reads : Reads lines p tokens s (p + length tokens) behind
+  pub ends : (m : Mark) (k : TokenKind) → EndsParam k → step m k behind ≡ next_param k (add_param l x)
 
 same-param : {lines : ℕ → ℕ} {p : ℕ} {tokens : List TokenKind} {s : State} {l : Listing} {x y : ParamTree} → x ≡ y → ReadsParam lines p tokens s l x → ReadsParam lines p tokens s l y
 same-param {lines = lines} {p = p} {tokens = tokens} {s = s} {l = l} e r = subst (λ z. ReadsParam lines p tokens s l z) e r
 
 -- brackets begin
-abbrev StartsDims : TokenKind → Type 0
+abbrev pub StartsDims : TokenKind → Type 0
 StartsDims (kind.Sign sign.OpenBracket) = Unit {0}
 StartsDims k = ⊥
 
@@ -47,7 +47,7 @@ module _ (lines : ℕ → ℕ) (l : Listing) (f : ℕ) (s : SpecTree) where
   abbrev made : ℕ → Option (List ℕ) → ℕ → DimTrees → ParamTree
   made i name a ds = record { first = f; line = lines f; spec = s; stars = i; name = name; at = a; dims = ds }
 
-  dims-start : (i : ℕ) (m : Mark) (k : TokenKind) → StartsDims k
+  pub dims-start : (i : ℕ) (m : Mark) (k : TokenKind) → StartsDims k
       → step m k (Param l f (lines f) s i) ≡ step m k (Dims (OfParam l f (lines f) s i None f) DimTrees.NoDims)
   dims-start i m (kind.Sign sign.OpenBracket) h = refl
   dims-start i m _ h = absurd h
@@ -144,7 +144,7 @@ module _ (lines : ℕ → ℕ) (l : Listing) (f : ℕ) (s : SpecTree) where
   from-spec (suc i) name ds b q e v =
       behind-spec (suc i) name ds b q e v (record { token = kind.Sign sign.Star; rest = _; are = refl; fits = tt })
 
-read-param : (lines : ℕ → ℕ) (l : Listing) (x : ParamTree) (p : ℕ) → ValidParam x
+pub read-param : (lines : ℕ → ℕ) (l : Listing) (x : ParamTree) (p : ℕ) → ValidParam x
     → ReadsParam lines p (spell_param x) (Specifying (ForParam l p (lines p)) (expr.Specifier [])) l (place_param lines p x)
 read-param lines l x p v =
     let b = width_spec x.spec in
@@ -198,7 +198,7 @@ void-placed lines p q (SpecTree.Integer f ws) i name ds = refl
 void-placed lines p q (SpecTree.Tag f tag) i name ds = refl
 void-placed lines p q (SpecTree.Struct f tag ms) i name ds = refl
 
-first-starts : (m : Mark) (l : Listing) (k : TokenKind) → BeginsSpec k → step m k (Params l) ≡ step m k (Specifying (ForParam l m.first m.line) (expr.Specifier []))
+pub first-starts : (m : Mark) (l : Listing) (k : TokenKind) → BeginsSpec k → step m k (Params l) ≡ step m k (Specifying (ForParam l m.first m.line) (expr.Specifier []))
 first-starts m l (kind.Word w) h = refl
 first-starts m l _ h = absurd h
 

@@ -21,7 +21,7 @@ use Rattle.ob_tree.proofs.Through.{through, through-spec}
 use Rattle.ob_tree.proofs.ProgramStates.{Use, SpecUse, State, Reading, Specifying}
 use Rattle.ob_tree.proofs.ProgramMachine.{use_level, used, read_to, read_whole, specify_to, specified, step, step_if, run}
 
-run-append : (lines : ℕ → ℕ) (p : ℕ) (xs ys : List TokenKind) (s : Option State)
+pub run-append : (lines : ℕ → ℕ) (p : ℕ) (xs ys : List TokenKind) (s : Option State)
     → run lines p (xs ++ ys) s ≡ run lines (p + length xs) ys (run lines p xs s)
 run-append lines p [] ys s = let e : p + 0 ≡ p = omega arith in ap (λ q. run lines q ys s) (sym e)
 run-append lines p (x ∷ xs) ys s =
@@ -92,7 +92,7 @@ pub all-stars : (lines : ℕ → ℕ) (starred : ℕ → State) → ((m : Mark) 
 all-stars lines starred goes n p = arrives (let e : 0 + n ≡ n = omega arith in ap starred e) (read-stars lines starred goes n p 0)
 
 -- The machine that reads expressions goes on in this one.
-expr-lift : (lines : ℕ → ℕ) (u : Use) (ks : List TokenKind) (p : ℕ) (s t : expr.State)
+pub expr-lift : (lines : ℕ → ℕ) (u : Use) (ks : List TokenKind) (p : ℕ) (s t : expr.State)
     → expr.run lines (use_level u) p ks (Some s) ≡ Some t → run lines p ks (Some (Reading u s)) ≡ Some (Reading u t)
 expr-lift lines u [] p s t e = let h : s ≡ t = cc in ap (λ x. Some (Reading u x)) h
 expr-lift lines u (k ∷ ks) p s t e = go (expr.step (use_level u) (here lines p) k s) (expr-lift lines u ks (p + 1)) e
@@ -104,7 +104,7 @@ expr-lift lines u (k ∷ ks) p s t e = go (expr.step (use_level u) (here lines p
     go (Some a) again h = again a t h
     go None again h = let n : None ≡ Some t = sym (run-none lines (use_level u) (p + 1) ks) ∙ h in cc
 
-spec-lift : (lines : ℕ → ℕ) (u : SpecUse) (ks : List TokenKind) (p : ℕ) (s t : expr.State)
+pub spec-lift : (lines : ℕ → ℕ) (u : SpecUse) (ks : List TokenKind) (p : ℕ) (s t : expr.State)
     → expr.run lines expr.no_level p ks (Some s) ≡ Some t → run lines p ks (Some (Specifying u s)) ≡ Some (Specifying u t)
 spec-lift lines u [] p s t e = let h : s ≡ t = cc in ap (λ x. Some (Specifying u x)) h
 spec-lift lines u (k ∷ ks) p s t e = go (expr.step expr.no_level (here lines p) k s) (spec-lift lines u ks (p + 1)) e
