@@ -1,26 +1,21 @@
-ghost use Rattle.std.specs.Prelude.{◌≡◌, Some, None, IfSome, IsFalse, option_map};
-ghost use Rattle.ob_words.specs.declared.types.IntType.TheVariants as kinds;
+ghost use Rattle.std.specs.Prelude.{◌≡◌, IsFalse, option_map};
 ghost use Rattle.ob_words.specs.Types.{IsNumber};
 ghost use Rattle.ob_words.specs.Conversion.{convert};
 ghost use Rattle.ob_words.specs.Operators.{binary, shifts};
-ghost use Rattle.ob_tree.specs.TypeView.{plain_type};
-ghost use Rattle.ob_typed.specs.ConstantValues.{and_value, arith_value, compare_value, cond_value, constant, evaluated, is_constant_form, is_true, or_value, quotient, truth, truth_value};
+ghost use Rattle.ob_typed.specs.ConstantValues.{and_value, arith_value, compare_value, cond_value, constant, evaluated, is_constant_form, is_true, or_value, quotient, right_value, truth, truth_value};
 ghost use Rattle.ob_typed.specs.TypedView.{typed_expr};
-ghost use Rattle.ob_typed.specs.WellTyped.{IsNumberOf, IsWellTyped};
 ghost use Rattle.ob_consts.specs.Refusal.{answer};
 
 use ob_typed::{TExpr, TNode};
-use ob_words::laws::law_result;
 use ob_words::{BinOp, IntType, Relation, binary, compare, convert};
 
 /// The one refusal of [`constant`].
 #[derive(Clone, Copy, Debug, PartialEq, Eq)]
 pub struct NotConstant;
 
-/// The value of an integer constant expression (C99 6.6), a number of its type. Refused exactly where
-/// `e` is none, or divides by zero in a part that is evaluated. `e` is well typed.
+/// The value of an integer constant expression (C99 6.6). Refused exactly where `e` is none, or divides
+/// by zero in a part that is evaluated.
 pub fn constant(e: &TExpr) -> Result<i128, NotConstant>
-    requires { IsWellTyped (typed_expr e.now) }
     ensures { result ≡ answer (constant (typed_expr e.now)) }
 {
     if !is_constant_form(e) {
@@ -50,9 +45,7 @@ fn is_constant_form(e: &TExpr) -> bool
 
 /// The value of an expression of that form, `None` where it divides by zero.
 fn evaluated(e: &TExpr) -> Option<i128>
-    requires { IsWellTyped (typed_expr e.now) }
-    ensures is { result ≡ evaluated (typed_expr e.now) }
-    ensures number { IfSome result (λ z. IsNumberOf (plain_type e.now.ty) z) }
+    ensures { result ≡ evaluated (typed_expr e.now) }
 {
     match &e.node {
         TNode::Num(z) => Some(*z),
@@ -88,8 +81,7 @@ fn evaluated(e: &TExpr) -> Option<i128>
 }
 
 fn converted(kind: IntType, x: Option<i128>) -> Option<i128>
-    ensures is { result ≡ option_map (convert kind) x }
-    ensures number { IfSome result (IsNumber kind) }
+    ensures { result ≡ option_map (convert kind) x }
 {
     match x {
         Some(z) => Some(convert(kind, z)),
@@ -98,10 +90,7 @@ fn converted(kind: IntType, x: Option<i128>) -> Option<i128>
 }
 
 fn arithmetic(op: BinOp, kind: IntType, x: Option<i128>, y: Option<i128>) -> Option<i128>
-    requires left { IfSome x (IsNumber kind) }
-    requires right { IsFalse (shifts op) → IfSome y (IsNumber kind) }
-    ensures is { result ≡ arith_value op kind x y }
-    ensures number { IfSome result (IsNumber kind) }
+    ensures { result ≡ arith_value op kind x y }
 {
     match (x, y) {
         (Some(a), Some(b)) => quotient(op, kind, a, b),
@@ -110,28 +99,35 @@ fn arithmetic(op: BinOp, kind: IntType, x: Option<i128>, y: Option<i128>) -> Opt
 }
 
 fn quotient(op: BinOp, kind: IntType, a: i128, b: i128) -> Option<i128>
-    requires left { IsNumber kind a }
-    requires right { IsFalse (shifts op) → IsNumber kind b }
-    ensures is { result ≡ quotient (binary op kind a b) }
-    ensures number { IfSome result (IsNumber kind) }
+    ensures { result ≡ quotient (binary op kind (convert kind a) (right_value op kind b)) }
 {
-    law_result();
+    let a = convert(kind, a);
+    let b = right_value(op, kind, b);
     match binary(op, kind, a, b) {
         Ok(z) => Some(z),
         Err(_) => None,
     }
 }
 
+/// The right operand of an operator in type `kind`.
+fn right_value(op: BinOp, kind: IntType, b: i128) -> i128
+    ensures is { result ≡ right_value op kind b }
+    ensures number { IsFalse (shifts op) → IsNumber kind result }
+{
+    match op {
+        BinOp::Shl | BinOp::Shr => b,
+        _ => convert(kind, b),
+    }
+}
+
 fn truth(b: bool) -> i128
-    ensures is { result ≡ truth b }
-    ensures number { IsNumber kinds.Int result }
+    ensures { result ≡ truth b }
 {
     if b { 1 } else { 0 }
 }
 
 fn compared(relation: Relation, x: Option<i128>, y: Option<i128>) -> Option<i128>
-    ensures is { result ≡ compare_value relation x y }
-    ensures number { IfSome result (IsNumber kinds.Int) }
+    ensures { result ≡ compare_value relation x y }
 {
     match (x, y) {
         (Some(a), Some(b)) => Some(truth(compare(relation, a, b))),
@@ -146,8 +142,7 @@ fn is_true(z: i128) -> bool
 }
 
 fn truth_of(x: Option<i128>) -> Option<i128>
-    ensures is { result ≡ truth_value x }
-    ensures number { IfSome result (IsNumber kinds.Int) }
+    ensures { result ≡ truth_value x }
 {
     match x {
         Some(z) => Some(truth(is_true(z))),
@@ -157,8 +152,7 @@ fn truth_of(x: Option<i128>) -> Option<i128>
 
 /// `&&`: the second operand counts where the first isn't 0.
 fn both(x: Option<i128>, y: Option<i128>) -> Option<i128>
-    ensures is { result ≡ and_value x y }
-    ensures number { IfSome result (IsNumber kinds.Int) }
+    ensures { result ≡ and_value x y }
 {
     match x {
         Some(a) => if is_true(a) {
@@ -172,8 +166,7 @@ fn both(x: Option<i128>, y: Option<i128>) -> Option<i128>
 
 /// `||`: the second operand counts where the first is 0.
 fn either(x: Option<i128>, y: Option<i128>) -> Option<i128>
-    ensures is { result ≡ or_value x y }
-    ensures number { IfSome result (IsNumber kinds.Int) }
+    ensures { result ≡ or_value x y }
 {
     match x {
         Some(a) => if is_true(a) {

@@ -6,5 +6,6 @@
 pub use constants::{NotConstant, constant};
 
 mod constants;
+pub mod laws;
 #[cfg(test)]
 mod tests;

@@ -8,7 +8,7 @@ use Rattle.ob_words.specs.declared.types.BinOp.{BinOp}
 use Rattle.ob_words.specs.declared.types.Relation.{Relation}
 use Rattle.ob_words.specs.declared.types.DivideByZero.{DivideByZero}
 use Rattle.ob_words.specs.Conversion.{convert}
-use Rattle.ob_words.specs.Operators.{binary, compare}
+use Rattle.ob_words.specs.Operators.{binary, compare, shifts}
 use Rattle.ob_typed.specs.TypedTree.{TypedExpr, TypedNode}
 use Rattle.ob_typed.specs.TypedTree.{TypedExpr as expr, TypedNode as node}
 
@@ -38,8 +38,12 @@ abbrev pub quotient : Result ℤ DivideByZero → Option ℤ
 quotient (Ok z) = Some z
 quotient (Err e) = None
 
+-- The operands of an operator in type k, in this type; the right one of a shift is any number.
+abbrev pub right_value : BinOp → IntType → ℤ → ℤ
+right_value op k b = if shifts op then b else convert k b
+
 abbrev pub arith_value : BinOp → IntType → Option ℤ → Option ℤ → Option ℤ
-arith_value op k (Some a) (Some b) = quotient (binary op k a b)
+arith_value op k (Some a) (Some b) = quotient (binary op k (convert k a) (right_value op k b))
 arith_value op k (Some a) None = None
 arith_value op k None b = None
 
