@@ -11,7 +11,7 @@ use Rattle.ob_typed.specs.TypedTree.TypedPlace.{Place}
 use Rattle.ob_typed.specs.TypedTree.TypedStmts.{NoStmts, Stmt}
 use Rattle.ob_meaning.specs.Calls.{called, entered, result_of, returned}
 use Rattle.ob_meaning.specs.Expressions.{Based, at_object, converted}
-use Rattle.ob_meaning.specs.Initialisers.{initialise, initialise_items, initialise_local, store_characters}
+use Rattle.ob_meaning.specs.Initialisers.{initialise, initialise_items, initialise_local, store_characters, string_in}
 use Rattle.ob_meaning.specs.Scalars.{part_of, scalars_of}
 use Rattle.ob_meaning.specs.Setup.{Below, Flow, next, broke, continued, gave, Loop, Setup, function_at, number_type}
 use Rattle.ob_meaning.specs.Statements.{dropped, exec, exec_all, goes_on, loop_of, looped, loops_on, optional, start_all, start_one, then_do, turn, turns}
@@ -33,7 +33,7 @@ module _ (u : Setup) (r s : Rule) (k : KeptByActs u r s) where
       initialise_acts : (item : TypedInit) (ty : PlainType) (b : Based) → k.Acts (initialise (under r u) m ty b item) (initialise (under s u) n ty b item)
       initialise_acts (init.Value (Typed line t what)) ty b =
           k.binds _ _ _ _ (value_acts u r s k m n below (Typed line t what)) (λ v. store_based_acts u r s k ty line b v)
-      initialise_acts (init.Chars cs) ty b = characters_acts (part_of u.program.structs ty 0).ty b cs 0
+      initialise_acts (init.Chars cs) ty b = characters_acts (part_of u.program.structs ty 0).ty b (string_in ty cs) 0
       initialise_acts (init.Items items) ty b = items_acts items ty b 0
       initialise_acts (init.Copy (Place line t lean)) ty b =
           k.binds _ _ _ _ (based_acts u r s k m n below lean) (λ from.

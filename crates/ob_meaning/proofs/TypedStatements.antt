@@ -14,7 +14,7 @@ use Rattle.ob_typed.specs.TypedTree.TypedInits.{NoItems, Item}
 use Rattle.ob_typed.specs.TypedTree.TypedPlace.{Place}
 use Rattle.ob_typed.specs.TypedTree.TypedStmts.{NoStmts, Stmt}
 use Rattle.ob_meaning.specs.Expressions.{Based, at_object, converted, store_based, value}
-use Rattle.ob_meaning.specs.Initialisers.{cleared, initialise, initialise_items, initialise_local, local_type, store_characters}
+use Rattle.ob_meaning.specs.Initialisers.{cleared, initialise, initialise_items, initialise_local, local_type, store_characters, string_in}
 use Rattle.ob_meaning.specs.Memory.{Object, object_at, wiped, with_wiped}
 use Rattle.ob_meaning.specs.Scalars.{part_of, scalars_of}
 use Rattle.ob_meaning.specs.Setup.{Below, Flow, next, broke, continued, gave, Loop, Setup, first_local, number_type, running}
@@ -53,7 +53,7 @@ module _ (u : Setup) (calls : List Call) where
       typed_init (init.Value (typed line t what)) ty b h =
           typed_bind calls (HasClass (class_of t)) Any _ _ (typed_value u calls m below (typed line t what) h.2) (λ v i.
           typed_weaken calls (HasClass (class_of ty)) Any _ (λ x j. tt) (typed_store_based u calls ty line b v h.1 (subst (λ c. HasClass c v) h.0 i)))
-      typed_init (init.Chars cs) ty b h = typed_characters (part_of u.program.structs ty 0).ty b cs 0 h
+      typed_init (init.Chars cs) ty b h = typed_characters (part_of u.program.structs ty 0).ty b (string_in ty cs) 0 h
       typed_init (init.Items items) ty b h = typed_items items ty b 0 h
       typed_init (init.Copy (Place line t lean)) ty b h =
           typed_bind calls AnyPlace Any _ _ (typed_based u calls m below lean h) (λ from i.

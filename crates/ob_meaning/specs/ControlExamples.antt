@@ -7,7 +7,7 @@ use Rattle.ob_words.specs.declared.types.Relation.TheVariants as relation
 use Rattle.ob_tree.specs.Types.{PlainType, PlainStructs}
 use Rattle.ob_tree.specs.Types.PlainType.{Int, Pointer, Array, Struct}
 use Rattle.ob_typed.specs.declared.names.Builtin.TheVariants as builtin
-use Rattle.ob_typed.specs.TypedTree.{TypedExpr, TypedInit, TypedInits, TypedProgram, TypedStmt}
+use Rattle.ob_typed.specs.TypedTree.{TypedExpr, TypedInit, TypedInits, TypedLean, TypedProgram, TypedStmt}
 use Rattle.ob_typed.specs.TypedTree.TypedExpr.{Typed}
 use Rattle.ob_typed.specs.TypedTree.TypedExprs.{NoArguments}
 use Rattle.ob_typed.specs.TypedTree.TypedInits.{NoItems, Item}
@@ -124,6 +124,20 @@ arrays =
     (stmt.Init 0 (init.Chars (97 ∷ 98 ∷ []))
     ∷ stmt.Init 1 (init.Items (items_of (init.Items (items_of (int_item 1 ∷ int_item 2 ∷ [])) ∷ init.Items (items_of (int_item 3 ∷ [])) ∷ [])))
     ∷ put (as_int (read char_type (element 0 1))) ∷ put_digit (element 0 2) ∷ put (digit (second_row 0)) ∷ put (digit (second_row 1)) ∷ return_zero)
+
+-- char a[2][2] = {{(a[1][1] = 7, 65)}, "b"}; putchar('0' + a[1][1]);
+abbrev pub corner : TypedLean
+corner = past (past (at.Local 0) 2 1) 1 1
+
+abbrev pub stored_before : TypedExpr
+stored_before =
+    as_char (int (node.Comma (Typed 1 char_type (node.Assign (place char_type corner) (as_char (number 7)))) (number 65)))
+
+abbrev pub final_zero : TypedProgram
+final_zero =
+    simple (Array (Array char_type 2) 2 ∷ []) 20
+    (stmt.Init 0 (init.Items (items_of (init.Items (items_of (init.Value stored_before ∷ [])) ∷ init.Chars (98 ∷ []) ∷ [])))
+    ∷ put (digit (as_int (read char_type corner))) ∷ return_zero)
 
 -- char c = 127; int i = 1; c += 1; putchar(c == -128 ? 121 : 110); putchar('0' + i++); putchar('0' + --i);
 abbrev pub stepped : TypedProgram

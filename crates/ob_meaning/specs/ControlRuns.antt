@@ -39,6 +39,9 @@ StaticsHoldPointers = Prints (run_under vanish examples.static_pointer) (66 ∷ 
 abbrev pub ArraysAreInitialised : Type 0
 ArraysAreInitialised = Prints (run_under vanish examples.arrays) (98 ∷ 48 ∷ 51 ∷ 48 ∷ []) [] 0
 
+abbrev pub FinalZeroIsStored : Type 0
+FinalZeroIsStored = Prints (run_under vanish examples.final_zero) (48 ∷ []) [] 0
+
 abbrev pub StepsGiveOldOrNew : Type 0
 StepsGiveOldOrNew = Prints (run_under vanish examples.stepped) (121 ∷ 49 ∷ 49 ∷ []) [] 0
 

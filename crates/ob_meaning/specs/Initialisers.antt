@@ -1,6 +1,6 @@
 -- Initialisers of automatic objects (C99 6.7.8). An initialiser is done each time its declaration is reached. The granules of an
 -- array or a structure become zero bytes first; then each item is evaluated and stored, in order.
-use Rattle.std.specs.Prelude.{ℕ, ◌+◌, pos, List, [], ◌∷◌, slice_index_or}
+use Rattle.std.specs.Prelude.{ℕ, ◌+◌, Bool, true, false, nat_lt, pos, List, [], ◌∷◌, ◌++◌, length, slice_index_or}
 use Rattle.ob_model.specs.declared.values.Value.{Value}
 use Rattle.ob_model.specs.declared.values.Value.TheVariants as value_of
 use Rattle.ob_tree.specs.Types.{PlainType}
@@ -17,8 +17,19 @@ use Rattle.ob_meaning.specs.Setup.{Below, Setup, first_local, number_type, runni
 use Rattle.ob_meaning.specs.Values.{nothing}
 use Rattle.ob_meaning.specs.World.{World, Run, go, bind}
 
--- The characters of a string, one after another. All bytes were zero, so that a final zero need not be stored. These stores lie
--- in their object, and no line is told of them.
+-- what a string stores in an array: its characters, and its final zero where there is room (6.7.8, paragraph 14)
+abbrev pub with_end : Bool → List ℕ → List ℕ
+with_end true cs = cs ++ 0 ∷ []
+with_end false cs = cs
+
+abbrev pub string_in : PlainType → List ℕ → List ℕ
+string_in Void cs = cs
+string_in (Int t) cs = cs
+string_in (Pointer t) cs = cs
+string_in (Array t n) cs = with_end (nat_lt (length cs) n) cs
+string_in (Struct n) cs = cs
+
+-- The characters of a string, one after another. These stores lie in their object, and no line is told of them.
 abbrev pub store_characters : Setup → PlainType → Based → List ℕ → ℕ → World → Run Value
 store_characters u ty b [] i w = go nothing w
 store_characters u ty b (c ∷ cs) i w =
@@ -31,7 +42,7 @@ abbrev mutual
   pub initialise : Setup → Below → PlainType → Based → TypedInit → World → Run Value
   initialise u m ty b (init.Value (Typed line t node)) w =
       bind (value u m (Typed line t node) w) (λ v w1. store_based u ty line b v w1)
-  initialise u m ty b (init.Chars cs) w = store_characters u (part_of u.program.structs ty 0).ty b cs 0 w
+  initialise u m ty b (init.Chars cs) w = store_characters u (part_of u.program.structs ty 0).ty b (string_in ty cs) 0 w
   initialise u m ty b (init.Items items) w = initialise_items u m ty b items 0 w
   initialise u m ty b (init.Copy (Place line t lean)) w =
       bind (based u m lean w) (λ from w1. copy_scalars u line b from (scalars_of u.program.structs ty) w1)

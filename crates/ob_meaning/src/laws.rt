@@ -6,7 +6,7 @@ ghost use Rattle.ob_meaning.specs.MemoryLaws.{LoadsInsideTakeNone, RunsKeepObjec
 ghost use Rattle.ob_meaning.specs.FirstDrop.{AgreementGoesThrough, RunsAreAlikeToTheFirstDrop, RunsOfSettingsAreAlike, VanishingRunsDropNothing};
 ghost use Rattle.ob_meaning.specs.Depth.{BoundOnCallsIsFree, BoundOnTurnsIsFree};
 ghost use Rattle.ob_meaning.specs.LineExample.{LineIsCut, LineIsWhole};
-ghost use Rattle.ob_meaning.specs.ControlRuns.{LeastSteps, LoopsTakeSteps, ChoicesSkip, CallsRecur, DanglingPointerEnds, ExitEnds, EndsGiveZeroOrNull, StaticsHoldPointers, ArraysAreInitialised, StepsGiveOldOrNew, PointersWalk, StructuresAreCopied, ScalarsGoAstray};
+ghost use Rattle.ob_meaning.specs.ControlRuns.{LeastSteps, LoopsTakeSteps, ChoicesSkip, CallsRecur, DanglingPointerEnds, ExitEnds, EndsGiveZeroOrNull, StaticsHoldPointers, ArraysAreInitialised, FinalZeroIsStored, StepsGiveOldOrNew, PointersWalk, StructuresAreCopied, ScalarsGoAstray};
 
 /// Runs of small programs that read and write past their objects.
 pub fn law_overruns()
@@ -91,6 +91,7 @@ pub fn law_control()
 pub fn law_assignments()
     ensures statics { StaticsHoldPointers }
     ensures arrays { ArraysAreInitialised }
+    ensures final_zero { FinalZeroIsStored }
     ensures steps { StepsGiveOldOrNew }
     ensures pointers { PointersWalk }
     ensures structures { StructuresAreCopied }
