@@ -11,6 +11,10 @@ pub returns-clause-arrays : goal.returns-clause-arrays
 unfolding convert residue from_bytes low_bytes
 returns-clause-arrays c = refl
 
+pub returns-clause-final_zero : goal.returns-clause-final_zero
+unfolding convert residue from_bytes low_bytes
+returns-clause-final_zero c = refl
+
 pub returns-clause-steps : goal.returns-clause-steps
 unfolding convert residue from_bytes low_bytes
 returns-clause-steps c = refl
