@@ -4,7 +4,7 @@ ghost use Rattle.ob_words.specs.Conversion.{convert};
 ghost use Rattle.ob_words.specs.Operators.{binary, shifts};
 ghost use Rattle.ob_typed.specs.ConstantValues.{and_value, arith_value, compare_value, cond_value, constant, evaluated, is_constant_form, is_true, or_value, quotient, right_value, truth, truth_value};
 ghost use Rattle.ob_typed.specs.TypedView.{typed_expr};
-ghost use Rattle.ob_consts.specs.Refusal.{answer};
+ghost use Rattle.ob_consts.specs.Refusal.{Answers};
 
 use ob_typed::{TExpr, TNode};
 use ob_words::{BinOp, IntType, Relation, binary, compare, convert};
@@ -16,7 +16,7 @@ pub struct NotConstant;
 /// The value of an integer constant expression (C99 6.6). Refused exactly where `e` is none, or divides
 /// by zero in a part that is evaluated.
 pub fn constant(e: &TExpr) -> Result<i128, NotConstant>
-    ensures { result ≡ answer (constant (typed_expr e.now)) }
+    ensures { Answers result (constant (typed_expr e.now)) }
 {
     if !is_constant_form(e) {
         return Err(NotConstant);
