@@ -1,5 +1,5 @@
 -- Type specifiers and declarators (C99 6.7.2, 6.7.5, 6.7.6): the rule of each.
-use Rattle.std.specs.Prelude.{ℕ, zero, suc, ◌+◌, ℤ, pos, Bool, true, false, ◌||◌, if◌then◌else◌, Option, Some, None, Ok, Err, List, [], ◌∷◌, ◌++◌, length, slice_get, slice_set, unsigned_abs}
+use Rattle.std.specs.Prelude.{ℕ, zero, suc, ℤ, pos, Bool, true, false, ◌||◌, if◌then◌else◌, Option, Some, None, Ok, Err, List, [], ◌∷◌, ◌++◌, length, slice_get, slice_set, unsigned_abs}
 use Rattle.std.specs.Prelude.{int_lt}
 use Rattle.std.specs.Str.{bytes_eq}
 use Rattle.ob_words.specs.declared.types.IntType.{IntType}
@@ -14,7 +14,7 @@ use Rattle.ob_tree.specs.Types.{PlainType as type}
 use Rattle.ob_tree.specs.Sizes.{is_complete}
 use Rattle.ob_typed.specs.Completeness.{is_object_type, is_sized}
 use Rattle.ob_typed.specs.TypedTree.{TypedExpr}
-use Rattle.ob_typed.specs.Faults.{Answer, fault}
+use Rattle.ob_typed.specs.Faults.{place_behind, Answer, fault}
 use Rattle.ob_typed.specs.Scopes.{Known, TagDeclared, find_tag, tag_at}
 use Rattle.ob_typed.specs.TypeTests.{is_unusable}
 use Rattle.ob_typed.specs.ConstantValues.{constant}
@@ -79,7 +79,7 @@ with_members structs n ms = slice_set structs n (record { complete = true; membe
 -- the place that faults of a structure stand at: its tag, which follows the word `struct`, else that word
 abbrev pub struct_place : Option (List ℕ) → (first : ℕ) → ℕ
 struct_place None first = first
-struct_place (Some name) first = first + 1
+struct_place (Some name) first = place_behind first
 
 -- the structures with the members of one of them, where it had none and isn't too great
 abbrev pub closed : PlainStructs → PlainType → (at : ℕ) → List PlainMember → Answer PlainStructs

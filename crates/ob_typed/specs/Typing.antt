@@ -15,7 +15,7 @@ use Rattle.ob_typed.specs.declared.names.Builtin.{Builtin}
 use Rattle.ob_typed.specs.declared.names.Builtin.TheVariants as builtin
 use Rattle.ob_typed.specs.TypedTree.{TypedFunction, TypedProgram, TypedStmt}
 use Rattle.ob_typed.specs.TypedTree.{TypedStmt as stmt}
-use Rattle.ob_typed.specs.Faults.{Answer, Fault, Walk, fault, then_rule, next, by}
+use Rattle.ob_typed.specs.Faults.{no_place, Answer, Fault, Walk, fault, then_rule, next, by}
 use Rattle.ob_typed.specs.Scopes.{Called, Declared, Env, Known, leaving}
 use Rattle.ob_typed.specs.Scopes.{Meaning as meaning}
 use Rattle.ob_typed.specs.TypeTests.{same_type}
@@ -50,10 +50,6 @@ builtins =
 
 abbrev pub main_name : List ℕ
 main_name = 109 ∷ 97 ∷ 105 ∷ 110 ∷ []
-
--- a place that no token has, which the trees of library functions have everywhere
-abbrev pub no_place : ℕ
-no_place = 4294967295
 
 -- the functions with a body, in order
 abbrev pub body_names : ProgramTree → List (List ℕ)
