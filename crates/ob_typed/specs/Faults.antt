@@ -1,7 +1,7 @@
 -- The first fault of a program. What is judged of a part is an answer: what the part is, or its first fault.
 -- A rule speaks of one node and is a plain answer. A walk over a tree also hands on what the parts add to,
 -- from left to right: its parts are walked in order, then its own rule is asked.
-use Rattle.std.specs.Prelude.{ℕ, ◌+◌, nat_eq, if◌then◌else◌, Result, Ok, Err}
+use Rattle.std.specs.Prelude.{ℕ, ◌+◌, min, Result, Ok, Err}
 use Rattle.ob_tree.specs.declared.faults.TypeKind.{TypeKind}
 
 -- which rule is broken, and the place of a token
@@ -13,9 +13,9 @@ pub record Fault : Type 0 where
 abbrev pub no_place : ℕ
 no_place = 4294967295
 
--- the place of the token behind one
-abbrev pub behind : (place : ℕ) → ℕ
-behind place = if nat_eq place no_place then no_place else place + 1
+-- the place of the token behind another
+abbrev pub place_behind : ℕ → ℕ
+place_behind n = min (n + 1) no_place
 
 abbrev pub Answer : Type 0 → Type 0
 Answer A = Result A Fault

@@ -14,7 +14,7 @@ use Rattle.ob_typed.specs.declared.names.Builtin.{Builtin}
 use Rattle.ob_typed.specs.declared.names.Builtin.TheVariants as builtin
 use Rattle.ob_typed.specs.TypedTree.{TypedExpr, TypedExprs, TypedLean, TypedNode}
 use Rattle.ob_typed.specs.TypedTree.{TypedExpr as expr, TypedExprs as exprs, TypedPlace as place, TypedLean as lean, TypedNode as node}
-use Rattle.ob_typed.specs.Faults.{Answer, behind, fault, then_rule}
+use Rattle.ob_typed.specs.Faults.{place_behind, Answer, fault, then_rule}
 use Rattle.ob_typed.specs.Scopes.{Meaning, Declared}
 use Rattle.ob_typed.specs.Scopes.{Meaning as meaning}
 use Rattle.ob_typed.specs.TypeTests.{is_unusable}
@@ -59,21 +59,21 @@ index_rule structs m x y = index_types structs m (value_type x) (value_type y) x
 -- ---- members (6.5.2.3): the name's token follows the `.` or the `->`
 
 abbrev pub member_found : Mark → TypedLean → Option MemberPlace → Answer Checked
-member_found m l None = fault kind.Member (behind m.at)
+member_found m l None = fault kind.Member (place_behind m.at)
 member_found m l (Some p) = Ok (checked.Place m.line p.ty (lean.Member l p.offset))
 
 -- the member of what lies at a place of a type
 abbrev pub member_of : PlainStructs → Mark → PlainType → TypedLean → (name : List ℕ) → Answer Checked
 member_of structs m (type.Struct n) l name = member_found m l (member structs n name)
-member_of structs m _ l name = fault kind.Member (behind m.at)
+member_of structs m _ l name = fault kind.Member (place_behind m.at)
 
 abbrev pub member_rule : PlainStructs → Mark → Checked → (name : List ℕ) → Answer Checked
 member_rule structs m (checked.Place line t l) name = member_of structs m t l name
-member_rule structs m _ name = fault kind.Member (behind m.at)
+member_rule structs m _ name = fault kind.Member (place_behind m.at)
 
 abbrev pub arrow_type : PlainStructs → Mark → PlainType → TypedExpr → (name : List ℕ) → Answer Checked
 arrow_type structs m (type.Pointer t) x name = member_of structs m t (pointed_to x) name
-arrow_type structs m _ x name = fault kind.Member (behind m.at)
+arrow_type structs m _ x name = fault kind.Member (place_behind m.at)
 
 abbrev pub arrow_rule : PlainStructs → Mark → TypedExpr → (name : List ℕ) → Answer Checked
 arrow_rule structs m x name = arrow_type structs m (value_type x) x name

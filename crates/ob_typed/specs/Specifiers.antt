@@ -14,7 +14,7 @@ use Rattle.ob_tree.specs.Types.{PlainType as type}
 use Rattle.ob_tree.specs.Sizes.{is_complete}
 use Rattle.ob_typed.specs.Completeness.{is_object_type, is_sized}
 use Rattle.ob_typed.specs.TypedTree.{TypedExpr}
-use Rattle.ob_typed.specs.Faults.{Answer, behind, fault}
+use Rattle.ob_typed.specs.Faults.{place_behind, Answer, fault}
 use Rattle.ob_typed.specs.Scopes.{Known, TagDeclared, find_tag, tag_at}
 use Rattle.ob_typed.specs.TypeTests.{is_unusable}
 use Rattle.ob_typed.specs.ConstantValues.{constant}
@@ -79,7 +79,7 @@ with_members structs n ms = slice_set structs n (record { complete = true; membe
 -- the place that faults of a structure stand at: its tag, which follows the word `struct`, else that word
 abbrev pub struct_place : Option (List ℕ) → (first : ℕ) → ℕ
 struct_place None first = first
-struct_place (Some name) first = behind first
+struct_place (Some name) first = place_behind first
 
 abbrev pub is_around : (number : ℕ) → List ℕ → Bool
 is_around n [] = false

@@ -15,7 +15,7 @@ use Rattle.ob_typed.specs.declared.names.Builtin.{Builtin}
 use Rattle.ob_typed.specs.declared.names.Builtin.TheVariants as builtin
 use Rattle.ob_typed.specs.TypedTree.{TypedFunction, TypedProgram, TypedStmt}
 use Rattle.ob_typed.specs.TypedTree.{TypedStmt as stmt}
-use Rattle.ob_typed.specs.Faults.{Answer, Fault, Walk, fault, no_place, then_rule, next, by}
+use Rattle.ob_typed.specs.Faults.{no_place, Answer, Fault, Walk, fault, then_rule, next, by}
 use Rattle.ob_typed.specs.Scopes.{Called, Declared, Env, Known, leaving}
 use Rattle.ob_typed.specs.Scopes.{Meaning as meaning}
 use Rattle.ob_typed.specs.TypeTests.{same_type}

@@ -41,8 +41,8 @@ star_rule m x = star_type m (value_type x) x
 
 -- ---- arithmetic operators (6.5.3.3) on a number of type k: -x is 0 - x, ~x is x ^ -1, !x is x == 0
 
-abbrev pub positive : Mark → IntType → TypedExpr → Checked
-positive m k x = checked.Plain (as_int (promote k) x)
+abbrev pub positive : IntType → TypedExpr → Checked
+positive k x = checked.Plain (as_int (promote k) x)
 
 abbrev pub negative : Mark → IntType → TypedExpr → Checked
 negative m k x =
@@ -61,7 +61,7 @@ is_null_pointer m t x =
     checked.Plain (expr.Typed m.line (type.Int Int) (node.PtrCompare Eq x (expr.Typed m.line (type.Pointer t) node.Null)))
 
 abbrev pub unary_type : Mark → Sign → PlainType → TypedExpr → Answer Checked
-unary_type m sign.Plus (type.Int k) x = Ok (positive m k x)
+unary_type m sign.Plus (type.Int k) x = Ok (positive k x)
 unary_type m sign.Minus (type.Int k) x = Ok (negative m k x)
 unary_type m sign.Tilde (type.Int k) x = Ok (complement m k x)
 unary_type m sign.Not (type.Int k) x = Ok (is_zero_number m k x)
