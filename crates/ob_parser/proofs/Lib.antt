@@ -10,3 +10,5 @@ pub mod CompleteStates
 pub mod Full
 pub mod Climbs
 pub mod ReachParams
+pub mod ReachNames
+pub mod ReachStatements
