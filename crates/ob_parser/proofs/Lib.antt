@@ -12,3 +12,4 @@ pub mod Climbs
 pub mod ReachParams
 pub mod ReachNames
 pub mod ReachStatements
+pub mod Exact

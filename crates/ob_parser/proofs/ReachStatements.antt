@@ -33,7 +33,7 @@ use Rattle.ob_parser.proofs.Climbs.{Within, w-nothing, w-token, w-part, w-spelle
 use Rattle.ob_parser.proofs.ReachNames.{reach-local, reach-for-local}
 
 -- no token was read where one was
-none-zero : {A : Type 0} (j : ℕ) → suc j ≡ 0 → A
+pub none-zero : {A : Type 0} (j : ℕ) → suc j ≡ 0 → A
 none-zero j h = let f : ⊥ = omega arith in absurd f
 
 module _ (lines : ℕ → ℕ) (m : ℕ) where
