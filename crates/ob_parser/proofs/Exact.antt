@@ -1,6 +1,5 @@
 -- What the machine answers is what the grammar says of programs.
-use Rattle.std.proofs.Common.{◌≡◌, ℕ, zero, suc, ◌+◌, ◌-◌, ◌<◌, ◌≤◌, max, List, [], ◌∷◌, ◌++◌, length, take, Bool, true, false, Option, Some, None, cond, refl, sym, ◌∙◌, ap, subst, arith, append_assoc, append-nil, length-append}
-use Rattle.std.specs.Prelude.{◌&&◌}
+use Rattle.std.proofs.Common.{◌≡◌, ℕ, zero, suc, ◌+◌, ◌-◌, ◌≤◌, max, List, [], ◌∷◌, ◌++◌, length, take, Bool, Option, Some, None, cond, refl, sym, ◌∙◌, ap, subst, arith, append_assoc, append-nil, length-append}
 use Rattle.std.specs.List.{All, AllByRecursion}
 use Rattle.std.proofs.lemmas.List.Elements.{All-head, All-tail}
 use Rattle.std.proofs.Math.Seq.{take-append_seam}
@@ -8,33 +7,32 @@ use Rattle.ob_tree.specs.declared.tokens.TokenKind.{TokenKind}
 use Rattle.ob_tree.specs.declared.tokens.TokenKind.TheVariants as kind
 use Rattle.ob_tree.specs.declared.tokens.Sign.TheVariants as sign
 use Rattle.ob_tree.specs.Trees.{SpecTree}
-use Rattle.ob_tree.specs.Programs.{StmtTree, BlockTrees, ParamsTree, FileTree, ItemTree, ProgramTree}
+use Rattle.ob_tree.specs.Programs.{StmtTree, BlockTrees, ParamsTree, ItemTree, ProgramTree}
 use Rattle.ob_tree.specs.Spelling.{stars, spell_spec, listed}
-use Rattle.ob_tree.specs.ProgramSpelling.{spell_static, spell_function, spell_file, spell_stmt, spell_block, spell_item, spell_program}
+use Rattle.ob_tree.specs.ProgramSpelling.{spell_static, spell_function, spell_file, spell_block, spell_item, spell_program}
 use Rattle.ob_tree.specs.Valid.{IsOfSource}
-use Rattle.ob_tree.specs.ProgramValid.{ValidStmt, ValidItem, ValidProgram}
+use Rattle.ob_tree.specs.ProgramValid.{ValidItem, ValidProgram}
 use Rattle.ob_tree.specs.Places.{here, place_spec, width_spec}
 use Rattle.ob_tree.specs.Paths.{node_with, begun_spec, height_spec}
 use Rattle.ob_tree.specs.ProgramPlaces.{width_static, width_params, width_item, place_params, place_item, place_program, PlacedProgram}
-use Rattle.ob_tree.specs.ProgramPaths.{begun_function, begun_stmt, begun_block, begun_item, begun_program, height_function, height_params, height_stmt, height_item, height_program}
+use Rattle.ob_tree.specs.ProgramPaths.{begun_function, begun_stmt, begun_block, begun_item, begun_program, height_function, height_item, height_program}
 use Rattle.ob_tree.specs.Fronts.{within, any}
 use Rattle.ob_tree.specs.ProgramFronts.{BeginsProgram, IsProgram}
 use Rattle.ob_tree.proofs.Machine as reader
 use Rattle.ob_tree.proofs.Readings as readings
-use Rattle.ob_tree.proofs.ProgramStates.{Definition, Frame, InBody, InBlock, InIf, InElse, InWhile, InDo, InFor, Outer, Heading, Declaration, ForDeclaration, State, Items, Specifying, Declare, Closed, Begin, Done}
-use Rattle.ob_tree.proofs.ProgramParts.{are_named}
+use Rattle.ob_tree.proofs.ProgramStates.{Definition, Frame, InBody, InBlock, InIf, InElse, InWhile, InFor, Outer, Heading, Declaration, ForDeclaration, State, Items, Specifying, Declare, Closed, Begin, Done}
 use Rattle.ob_tree.proofs.ProgramMachine.{begin_declaration, begin_body, reduce, define, step, step_if, run, whole, finish}
 use Rattle.ob_tree.proofs.ProgramRuns.{run-append, Reads, restart}
 use Rattle.ob_tree.proofs.ProgramNames.{named, StartsName, stars-first, name-starts, read-function}
 use Rattle.ob_tree.proofs.ProgramDeclarations.{BeginsDeclaration, read-head}
 use Rattle.ob_tree.proofs.ProgramThrough.{declares-not-else}
-use Rattle.ob_tree.proofs.OneProgram.{params-named, Behind, length-function, may-declare, read-item, read-program}
+use Rattle.ob_tree.proofs.OneProgram.{params-named, length-function, may-declare, read-item, read-program}
 use Rattle.ob_exprs.proofs.Begun.{full-spec}
 use Rattle.ob_exprs.proofs.Heights.{spec-place}
 use Rattle.ob_parser.specs.Loads.{declaration_load, load_stack, load}
 use Rattle.ob_parser.proofs.Adding.{item-height}
 use Rattle.ob_parser.proofs.Full.{node-some, full-function, full-item, params-place, item-place}
-use Rattle.ob_parser.proofs.Shapes.{stack_spell, state_spell, Takes, Stands, StateOk}
+use Rattle.ob_parser.proofs.Shapes.{state_spell, StateOk}
 use Rattle.ob_parser.proofs.Sound.{Good}
 use Rattle.ob_parser.proofs.SoundStatements.{Kept, stmt-kept, define-valid, define-spelled, program-step-good}
 use Rattle.ob_parser.proofs.Complete.{Completes}
@@ -74,31 +72,31 @@ module _ (lines : ℕ → ℕ) (m : ℕ) where
       let wh : length head ≡ width_static fixed + width_spec s = length-append (spell_static fixed) (spell_spec s) in
       w-spelled lines m k p (head ++ (spell_function n name ps ++ kind.Sign sign.OpenBrace ∷ rest)) (spell_static fixed ++ (spell_spec s ++ (spell_function n name ps ++ kind.Sign sign.OpenBrace ∷ rest))) st
       (append_assoc (spell_static fixed) (spell_spec s) (spell_function n name ps ++ kind.Sign sign.OpenBrace ∷ rest)) (
-        w-part lines m head (spell_function n name ps ++ kind.Sign sign.OpenBrace ∷ rest) k p q st t (read-head lines o fixed s st p v.0 same)
-        (λ w. reach-head lines m o fixed s st k p v.0 same y l (omega (arith, d, head-less k (begun_spec s ka) (max (begun_function n ps kb) (begun_stmt (StmtTree.Block f b body) kc)))))
-        (λ j w.
-        (
-          let n1 = node-some k (max (begun_spec s ka) (max (begun_function n ps kb) (begun_stmt (StmtTree.Block f b body) kc))) (omega arith) in
-          let f1 : begun_spec s ka ≡ height_spec s = full-spec s ka v.0 (omega (arith, wh)) in
-          let eb : kb ≡ suc j = omega (arith, wh) in
-          let ld : declaration_load decl ≤ m = omega (arith, d, n1, f1, spec-place lines r s) in
-          let first = stars-first n name _ in
-          w-part lines m (spell_function n name ps) (kind.Sign sign.OpenBrace ∷ rest) (suc j) q c t (Closed x ps') (restart (Declare decl 0) StartsName first (name-starts h s' (here lines q)) (read-function lines decl n name ps q v.2 tt))
-          (λ w2. w-restart lines m (Declare decl 0) StartsName (spell_function n name ps) (suc j) q t first (name-starts h s' (here lines q)) (none-zero j)
-          (λ i u. reach-function lines m decl n name ps (suc i) q v.2 tt ld (omega (arith, d, n1, ap (begun_function n ps) (eb ∙ u)))))
-          (λ j2 w2.
-          w-token lines m (kind.Sign sign.OpenBrace) rest (suc j2) c (c + 1) (Closed x ps') start (none-zero j2) open_body refl
-          (λ j3 w3.
-          (
-            let lf = length-function n name ps in
-            let f2 : begun_function n ps kb ≡ height_function n ps = full-function n name ps kb v.2 (omega (arith, wh)) in
-            let n2 = node-some kc (begun_block body (kc - 1)) (omega (arith, wh, lf)) in
-            let ec : kc - 1 ≡ j3 = omega (arith, wh, lf) in
-            let lg : load_stack gs ≤ m = omega (arith, d, n1, f1, f2, spec-place lines r s, params-place lines (q + n + 2) ps) in
-            let lb : load_stack (InBlock c (lines c) BlockTrees.NoItems ∷ gs) ≤ m = omega (arith, lg, d, n1, n2) in
-            reach-block lines m body c (lines c) BlockTrees.NoItems gs start j3 (c + 1) v.5 (λ u i. refl) (λ u. lb) lb (omega (arith, d, n1, n2, ap (begun_block body) ec))
-          )))
-        ))
+      w-part lines m head (spell_function n name ps ++ kind.Sign sign.OpenBrace ∷ rest) k p q st t (read-head lines o fixed s st p v.0 same)
+      (λ w. reach-head lines m o fixed s st k p v.0 same y l (omega (arith, d, head-less k (begun_spec s ka) (max (begun_function n ps kb) (begun_stmt (StmtTree.Block f b body) kc)))))
+      (λ j w.
+      (
+      let n1 = node-some k (max (begun_spec s ka) (max (begun_function n ps kb) (begun_stmt (StmtTree.Block f b body) kc))) (omega arith) in
+      let f1 : begun_spec s ka ≡ height_spec s = full-spec s ka v.0 (omega (arith, wh)) in
+      let eb : kb ≡ suc j = omega (arith, wh) in
+      let ld : declaration_load decl ≤ m = omega (arith, d, n1, f1, spec-place lines r s) in
+      let first = stars-first n name _ in
+      w-part lines m (spell_function n name ps) (kind.Sign sign.OpenBrace ∷ rest) (suc j) q c t (Closed x ps') (restart (Declare decl 0) StartsName first (name-starts h s' (here lines q)) (read-function lines decl n name ps q v.2 tt))
+      (λ w2. w-restart lines m (Declare decl 0) StartsName (spell_function n name ps) (suc j) q t first (name-starts h s' (here lines q)) (none-zero j)
+      (λ i u. reach-function lines m decl n name ps (suc i) q v.2 tt ld (omega (arith, d, n1, ap (begun_function n ps) (eb ∙ u)))))
+      (λ j2 w2.
+      w-token lines m (kind.Sign sign.OpenBrace) rest (suc j2) c (c + 1) (Closed x ps') start (none-zero j2) open_body refl
+      (λ j3 w3.
+      (
+      let lf = length-function n name ps in
+      let f2 : begun_function n ps kb ≡ height_function n ps = full-function n name ps kb v.2 (omega (arith, wh)) in
+      let n2 = node-some kc (begun_block body (kc - 1)) (omega (arith, wh, lf)) in
+      let ec : kc - 1 ≡ j3 = omega (arith, wh, lf) in
+      let lg : load_stack gs ≤ m = omega (arith, d, n1, f1, f2, spec-place lines r s, params-place lines (q + n + 2) ps) in
+      let lb : load_stack (InBlock c (lines c) BlockTrees.NoItems ∷ gs) ≤ m = omega (arith, lg, d, n1, n2) in
+      reach-block lines m body c (lines c) BlockTrees.NoItems gs start j3 (c + 1) v.5 (λ u i. refl) (λ u. lb) lb (omega (arith, d, n1, n2, ap (begun_block body) ec))
+      )))
+      ))
       )
     where
       head-less : (k x y : ℕ) → node_with k x ≤ node_with k (max x y)
@@ -138,10 +136,10 @@ module _ (lines : ℕ → ℕ) (m : ℕ) where
       w-part lines m (spell_item i) (spell_program is) k p q s r.state r.reads (λ w. reach-item i items s k p v.0 same (λ z. a) l (omega (arith, d)))
       (λ j w.
       (
-        let f : begun_item i k ≡ height_item i = full-item i k v.0 (omega arith) in
-        let g : k - width_item i ≡ suc j = omega arith in
-        reach-items is (items ++ i' ∷ []) r.state (suc j) q v.1 (λ c b. r.behind.next (here lines q) c (declares-not-else c b)) (item-whole i items s r.state p q v.0 same a l (omega (arith, d, f)) r.reads)
-        (omega (arith, d, f, item-height items i', item-place lines p i)) (omega (arith, d, ap (begun_program is) g))
+      let f : begun_item i k ≡ height_item i = full-item i k v.0 (omega arith) in
+      let g : k - width_item i ≡ suc j = omega arith in
+      reach-items is (items ++ i' ∷ []) r.state (suc j) q v.1 (λ c b. r.behind.next (here lines q) c (declares-not-else c b)) (item-whole i items s r.state p q v.0 same a l (omega (arith, d, f)) r.reads)
+      (omega (arith, d, f, item-height items i', item-place lines p i)) (omega (arith, d, ap (begun_program is) g))
       ))
 
 -- a program has an external declaration

@@ -13,3 +13,4 @@ pub mod ReachParams
 pub mod ReachNames
 pub mod ReachStatements
 pub mod Exact
+pub mod OneAnswer

@@ -1,35 +1,34 @@
 -- What the machine holds after a part of the tokens of a declaration is no deeper than the nodes that have begun.
-use Rattle.std.proofs.Common.{◌≡◌, ℕ, zero, suc, ◌+◌, ◌-◌, ◌<◌, ◌≤◌, max, min, List, [], ◌∷◌, ◌++◌, length, take, Bool, true, false, Option, Some, None, refl, sym, ◌∙◌, ap, subst, arith, append_assoc, append-nil, length-append}
+use Rattle.std.proofs.Common.{◌≡◌, ℕ, zero, suc, ◌+◌, ◌-◌, ◌≤◌, max, min, List, [], ◌∷◌, ◌++◌, length, take, Bool, true, false, Some, None, refl, sym, ◌∙◌, ap, arith, append_assoc, length-append}
 use Rattle.std.specs.Prelude.{cond}
 use Rattle.std.specs.List.{AllByRecursion}
 use Rattle.ob_tree.specs.declared.tokens.TokenKind.{TokenKind}
 use Rattle.ob_tree.specs.declared.tokens.TokenKind.TheVariants as kind
 use Rattle.ob_tree.specs.declared.tokens.Keyword.TheVariants as word
 use Rattle.ob_tree.specs.declared.tokens.Sign.TheVariants as sign
-use Rattle.ob_tree.specs.Trees.{Mark, SpecTree, ObjTree, ObjTrees, DimTrees, InitTree}
-use Rattle.ob_tree.specs.Programs.{LocalTree, StartTree, BlockTrees, ParamsTree, FileTree}
+use Rattle.ob_tree.specs.Trees.{SpecTree, ObjTree, ObjTrees, DimTrees}
+use Rattle.ob_tree.specs.Programs.{LocalTree, ParamsTree, FileTree}
 use Rattle.ob_tree.specs.Spelling.{stars, spell_spec, spell_dims, spell_init, spell_objs, listed, more_listed}
 use Rattle.ob_tree.specs.ProgramSpelling.{spell_static, spell_params, spell_function, spell_file, spell_local}
 use Rattle.ob_tree.specs.Valid.{ValidSpec}
-use Rattle.ob_tree.specs.ProgramValid.{ValidNames, ValidFile, ValidFiles, ValidParams, ValidLocal}
+use Rattle.ob_tree.specs.ProgramValid.{ValidFile, ValidFiles, ValidParams, ValidLocal}
 use Rattle.ob_tree.specs.Places.{here, place_spec, place_dims, width_spec, width_dims, width_obj}
-use Rattle.ob_tree.specs.ProgramPlaces.{width_static, width_file, place_file, place_files}
+use Rattle.ob_tree.specs.ProgramPlaces.{width_static, width_file, place_file}
 use Rattle.ob_tree.specs.Paths.{node_with, begun_spec, begun_dims, begun_init, begun_objs, height_spec, height_dims, height_objs}
 use Rattle.ob_tree.specs.ProgramPaths.{begun_params, begun_function, begun_file, begun_files, begun_local, height_file, height_files}
 use Rattle.ob_tree.proofs.Machine as reader
-use Rattle.ob_tree.proofs.FirstTokens.{FirstOf, first-more, first-spec, BeginsSpec}
+use Rattle.ob_tree.proofs.FirstTokens.{first-more, first-spec, BeginsSpec}
 use Rattle.ob_tree.proofs.SpecSteps.{length-stars}
-use Rattle.ob_tree.proofs.ProgramStates.{Frame, InBlock, Owner, Outer, Inner, Start, Heading, Declaration, Declarator, OfName, Target, SpecUse, ForDeclaration, ForTest, State, Specifying, Declare, Dims, Optional, Init, Params, Closed, Begin, ForOpen}
-use Rattle.ob_tree.proofs.ProgramParts.{add_name, add_local, objects, local_of, item_of}
+use Rattle.ob_tree.proofs.ProgramStates.{Frame, Owner, Outer, Inner, Start, Heading, Declaration, OfName, Target, ForDeclaration, State, Specifying, Declare, Dims, Init, Params, ForOpen}
+use Rattle.ob_tree.proofs.ProgramParts.{add_name, objects, local_of, item_of}
 use Rattle.ob_tree.proofs.ProgramMachine.{begin_declaration, end_declaration, step, run}
-use Rattle.ob_tree.proofs.ProgramRuns.{Reads, token, ◌before◌, restart, read-spec, all-stars}
+use Rattle.ob_tree.proofs.ProgramRuns.{restart, read-spec, all-stars}
 use Rattle.ob_tree.proofs.ProgramInits.{read-open-dims}
-use Rattle.ob_tree.proofs.ProgramNames.{IsOuter, MayDeclare, named, outer-parameters, behind, read-file, name-ends, with_names, StartsName, file-first, name-starts, tag-declared}
+use Rattle.ob_tree.proofs.ProgramNames.{IsOuter, MayDeclare, named, outer-parameters, behind, read-file, name-ends, StartsName, file-first, name-starts, tag-declared}
 use Rattle.ob_tree.proofs.ProgramDeclarations.{BeginsDeclaration, spec-declares, begin-spec, read-head, files, all-files, valid-files, may-declare, for-starts}
-use Rattle.ob_exprs.specs.Loads.{count}
-use Rattle.ob_exprs.proofs.Begun.{full-spec, full-dims}
+use Rattle.ob_exprs.proofs.Begun.{full-spec}
 use Rattle.ob_exprs.proofs.Heights.{spec-place, dims-place}
-use Rattle.ob_parser.specs.Loads.{owner_depth, owner_load, depth_in, declaration_load, declarator_load, load}
+use Rattle.ob_parser.specs.Loads.{owner_depth, owner_load, depth_in, declaration_load, load}
 use Rattle.ob_parser.proofs.Adding.{item-height, local-height, name-height}
 use Rattle.ob_parser.proofs.Complete.{begun_declaration}
 use Rattle.ob_parser.proofs.Full.{node-some, full-open-dims, full-file, file-place}
@@ -89,16 +88,16 @@ module _ (lines : ℕ → ℕ) (m : ℕ) where
       named-reach d n name (spell_dims ds ++ kind.Sign sign.Assign ∷ spell_init i) k p l (omega (arith, b))
       (λ j g.
       (
-        let e : k - (n + 1) ≡ j = omega arith in
-        w-part lines m (spell_dims ds) (kind.Sign sign.Assign ∷ spell_init i) j (p + n + 1) q (Dims h DimTrees.NoDims) (Dims h ds') (read-open-dims lines h ds (p + n + 1) v.1)
-        (λ w. reach-open-dims lines m h ds j (p + n + 1) v.1 (omega (arith, b, g)) (omega (arith, b, g, ap (begun_dims ds) e)))
-        (λ r w.
-        (
-          let f : begun_dims ds (k - (n + 1)) ≡ height_dims ds = full-open-dims ds (k - (n + 1)) v.1 (omega arith) in
-          let y = dims-place lines (p + n + 1) ds in
-          w-token lines m (kind.Sign sign.Assign) (spell_init i) (suc r) q (q + 1) (Dims h ds') (Init t []) (λ z. (let u : ⊥ = omega arith in absurd u)) refl refl
-          (λ c z. (let s : k - (n + width_dims ds + 2) ≡ c = omega arith in reach-init lines m t i [] c (q + 1) v.2 (omega (arith, b, g, f, y)) (omega (arith, b, ap (begun_init i) s))))
-        ))
+      let e : k - (n + 1) ≡ j = omega arith in
+      w-part lines m (spell_dims ds) (kind.Sign sign.Assign ∷ spell_init i) j (p + n + 1) q (Dims h DimTrees.NoDims) (Dims h ds') (read-open-dims lines h ds (p + n + 1) v.1)
+      (λ w. reach-open-dims lines m h ds j (p + n + 1) v.1 (omega (arith, b, g)) (omega (arith, b, g, ap (begun_dims ds) e)))
+      (λ r w.
+      (
+      let f : begun_dims ds (k - (n + 1)) ≡ height_dims ds = full-open-dims ds (k - (n + 1)) v.1 (omega arith) in
+      let y = dims-place lines (p + n + 1) ds in
+      w-token lines m (kind.Sign sign.Assign) (spell_init i) (suc r) q (q + 1) (Dims h ds') (Init t []) (λ z. (let u : ⊥ = omega arith in absurd u)) refl refl
+      (λ c z. (let s : k - (n + width_dims ds + 2) ≡ c = omega arith in reach-init lines m t i [] c (q + 1) v.2 (omega (arith, b, g, f, y)) (omega (arith, b, ap (begun_init i) s))))
+      ))
       ))
 
   -- declarators up to the semicolon
@@ -110,14 +109,14 @@ module _ (lines : ℕ → ℕ) (m : ℕ) where
       let q = p + width_file x in
       let h = d.heading in
       w-spelled lines m k p (spell_file x ++ kind.Sign sign.Semi ∷ []) ((spell_file x ++ []) ++ kind.Sign sign.Semi ∷ []) (Declare d 0) (sym (append_assoc (spell_file x) [] (kind.Sign sign.Semi ∷ []))) (
-        w-part lines m (spell_file x) (kind.Sign sign.Semi ∷ []) k p q (Declare d 0) (behind d x') (read-file lines d x p v o) (λ w. reach-file d x k p v o l (omega (arith, b)))
-        (λ j w.
-        (
-          let f : begun_file x k ≡ height_file x = full-file x k v (omega arith) in
-          let e : load (end_declaration (add_name d x')) ≤ m = end-load m h.owner h.first h.line h.fixed d.spec (d.names ++ x' ∷ []) (omega (arith, b, f, name-height d.names x', file-place lines p x)) in
-          w-token lines m (kind.Sign sign.Semi) [] (suc j) q (q + 1) (behind d x') (end_declaration (add_name d x')) (λ z. (let u : ⊥ = omega arith in absurd u)) (name-ends lines d x p (here lines q) (kind.Sign sign.Semi) v tt) refl
-          (λ i z. w-nothing lines m i (q + 1) (end_declaration (add_name d x')) e)
-        ))
+      w-part lines m (spell_file x) (kind.Sign sign.Semi ∷ []) k p q (Declare d 0) (behind d x') (read-file lines d x p v o) (λ w. reach-file d x k p v o l (omega (arith, b)))
+      (λ j w.
+      (
+      let f : begun_file x k ≡ height_file x = full-file x k v (omega arith) in
+      let e : load (end_declaration (add_name d x')) ≤ m = end-load m h.owner h.first h.line h.fixed d.spec (d.names ++ x' ∷ []) (omega (arith, b, f, name-height d.names x', file-place lines p x)) in
+      w-token lines m (kind.Sign sign.Semi) [] (suc j) q (q + 1) (behind d x') (end_declaration (add_name d x')) (λ z. (let u : ⊥ = omega arith in absurd u)) (name-ends lines d x p (here lines q) (kind.Sign sign.Semi) v tt) refl
+      (λ i z. w-nothing lines m i (q + 1) (end_declaration (add_name d x')) e)
+      ))
       )
   reach-files x (y ∷ ys) d k p v vs o os l b =
       let x' = place_file lines p x in
@@ -125,15 +124,15 @@ module _ (lines : ℕ → ℕ) (m : ℕ) where
       let rest = listed spell_file (y ∷ ys) ++ kind.Sign sign.Semi ∷ [] in
       w-spelled lines m k p (spell_file x ++ kind.Sign sign.Comma ∷ rest) (listed spell_file (x ∷ (y ∷ ys)) ++ kind.Sign sign.Semi ∷ []) (Declare d 0)
       (sym (append_assoc (spell_file x) (more_listed spell_file (y ∷ ys)) (kind.Sign sign.Semi ∷ []))) (
-        w-part lines m (spell_file x) (kind.Sign sign.Comma ∷ rest) k p q (Declare d 0) (behind d x') (read-file lines d x p v o) (λ w. reach-file d x k p v o l (omega (arith, b)))
-        (λ j w.
-        w-token lines m (kind.Sign sign.Comma) rest (suc j) q (q + 1) (behind d x') (Declare (add_name d x') 0) (λ z. (let u : ⊥ = omega arith in absurd u)) (name-ends lines d x p (here lines q) (kind.Sign sign.Comma) v tt) refl
-        (λ i z.
-        (
-          let f : begun_file x k ≡ height_file x = full-file x k v (omega arith) in
-          let e : k - (width_file x + 1) ≡ i = omega arith in
-          reach-files y ys (add_name d x') i (q + 1) vs.0 vs.1 os.0 os.1 (omega (arith, b, f, name-height d.names x', file-place lines p x)) (omega (arith, b, ap (begun_files (y ∷ ys)) e))
-        )))
+      w-part lines m (spell_file x) (kind.Sign sign.Comma ∷ rest) k p q (Declare d 0) (behind d x') (read-file lines d x p v o) (λ w. reach-file d x k p v o l (omega (arith, b)))
+      (λ j w.
+      w-token lines m (kind.Sign sign.Comma) rest (suc j) q (q + 1) (behind d x') (Declare (add_name d x') 0) (λ z. (let u : ⊥ = omega arith in absurd u)) (name-ends lines d x p (here lines q) (kind.Sign sign.Comma) v tt) refl
+      (λ i z.
+      (
+      let f : begun_file x k ≡ height_file x = full-file x k v (omega arith) in
+      let e : k - (width_file x + 1) ≡ i = omega arith in
+      reach-files y ys (add_name d x') i (q + 1) vs.0 vs.1 os.0 os.1 (omega (arith, b, f, name-height d.names x', file-place lines p x)) (omega (arith, b, ap (begun_files (y ∷ ys)) e))
+      )))
       )
 
   -- all declarators behind a specifier that was placed at r
@@ -164,18 +163,18 @@ module _ (lines : ℕ → ℕ) (m : ℕ) where
       (λ c f. same c (spec-declares c f) ∙ begin-spec (here lines p) c o f) z
       (λ j e.
       (
-        let n = node-some k (begun_spec spec (k - 0)) (omega arith) in
-        let g : k - 0 ≡ suc j = omega arith in
-        reach-specifier lines m (ForDeclaration h) spec (suc j) p v (omega (arith, b, n)) (omega (arith, b, n, ap (begun_spec spec) g))
+      let n = node-some k (begun_spec spec (k - 0)) (omega arith) in
+      let g : k - 0 ≡ suc j = omega arith in
+      reach-specifier lines m (ForDeclaration h) spec (suc j) p v (omega (arith, b, n)) (omega (arith, b, n, ap (begun_spec spec) g))
       ))
   reach-head o true spec s k p v same z l b =
       let h : Heading = record { owner = o; first = p; line = lines p; fixed = true } in
       w-token lines m (kind.Word word.Static) (spell_spec spec) k p (p + 1) s (Specifying (ForDeclaration h) (reader.Specifier [])) z (same (kind.Word word.Static) refl) refl
       (λ j e.
       (
-        let n = node-some k (begun_spec spec (k - 1)) (omega arith) in
-        let g : k - 1 ≡ j = omega arith in
-        reach-specifier lines m (ForDeclaration h) spec j (p + 1) v (omega (arith, b, n)) (omega (arith, b, n, ap (begun_spec spec) g))
+      let n = node-some k (begun_spec spec (k - 1)) (omega arith) in
+      let g : k - 1 ≡ j = omega arith in
+      reach-specifier lines m (ForDeclaration h) spec j (p + 1) v (omega (arith, b, n)) (omega (arith, b, n, ap (begun_spec spec) g))
       ))
 
   head-less : (fixed : Bool) (s : SpecTree) (xs : List FileTree) (k : ℕ) → node_with k (begun_spec s (k - width_static fixed)) ≤ begun_declaration fixed s xs k
@@ -196,11 +195,11 @@ module _ (lines : ℕ → ℕ) (m : ℕ) where
       (λ e. reach-head o fixed spec s k p v same z l (omega (arith, b, head-less fixed spec xs k)))
       (λ j e.
       (
-        let y : length (spell_static fixed ++ spell_spec spec) ≡ width_static fixed + width_spec spec = length-append (spell_static fixed) (spell_spec spec) in
-        let n = node-some k (max (begun_spec spec (k - width_static fixed)) (begun_files xs (k - (width_static fixed + width_spec spec)))) (omega arith) in
-        let f : begun_spec spec (k - width_static fixed) ≡ height_spec spec = full-spec spec (k - width_static fixed) v (omega (arith, y)) in
-        let g : k - (width_static fixed + width_spec spec) ≡ suc j = omega (arith, y) in
-        reach-names h spec a xs (suc j) q w u (omega (arith, b, n, f, spec-place lines a spec)) (omega (arith, b, n, ap (begun_files xs) g))
+      let y : length (spell_static fixed ++ spell_spec spec) ≡ width_static fixed + width_spec spec = length-append (spell_static fixed) (spell_spec spec) in
+      let n = node-some k (max (begun_spec spec (k - width_static fixed)) (begun_files xs (k - (width_static fixed + width_spec spec)))) (omega arith) in
+      let f : begun_spec spec (k - width_static fixed) ≡ height_spec spec = full-spec spec (k - width_static fixed) v (omega (arith, y)) in
+      let g : k - (width_static fixed + width_spec spec) ≡ suc j = omega (arith, y) in
+      reach-names h spec a xs (suc j) q w u (omega (arith, b, n, f, spec-place lines a spec)) (omega (arith, b, n, ap (begun_files xs) g))
       ))
 
 files-begun : (os : ObjTrees) (k : ℕ) → begun_files (files os) k ≡ begun_objs os k
@@ -240,20 +239,20 @@ module _ (lines : ℕ → ℕ) (m : ℕ) where
       let first = first-spec l.spec v.0 in
       let same = λ (c : TokenKind) (g : BeginsSpec c). for-starts (here lines p) c f n fs g in
       w-spelled lines m k p (spell_spec l.spec ++ rest) (spell_local l) (ForOpen f n fs) spelled (
-        w-part lines m (spell_spec l.spec) rest k p q (ForOpen f n fs) t (restart start BeginsSpec first same (read-spec lines (ForDeclaration h) l.spec p v.0))
-        (λ g. w-restart lines m start BeginsSpec (spell_spec l.spec) k p (ForOpen f n fs) first same (λ z. a)
-        (λ j z.
-        (
-          let i = node-some k (max (begun_spec l.spec (k - 0)) (begun_files (files l.names) (k - (0 + width_spec l.spec)))) (omega arith) in
-          let r : k - 0 ≡ suc j = omega arith in
-          reach-specifier lines m (ForDeclaration h) l.spec (suc j) p v.0 (omega (arith, a, b, local-begun l k, y, i)) (omega (arith, b, local-begun l k, y, i, ap (begun_spec l.spec) r))
-        )))
-        (λ j g.
-        (
-          let i = node-some k (max (begun_spec l.spec (k - 0)) (begun_files (files l.names) (k - (0 + width_spec l.spec)))) (omega arith) in
-          let c : begun_spec l.spec (k - 0) ≡ height_spec l.spec = full-spec l.spec (k - 0) v.0 (omega arith) in
-          let r : k - (0 + width_spec l.spec) ≡ suc j = omega arith in
-          reach-names lines m h l.spec p (files l.names) (suc j) q (valid-files l.spec l.names v.1) (may-declare o l.names) (omega (arith, a, b, local-begun l k, y, i, c, spec-place lines p l.spec))
-          (omega (arith, b, local-begun l k, y, i, ap (begun_files (files l.names)) r))
-        ))
+      w-part lines m (spell_spec l.spec) rest k p q (ForOpen f n fs) t (restart start BeginsSpec first same (read-spec lines (ForDeclaration h) l.spec p v.0))
+      (λ g. w-restart lines m start BeginsSpec (spell_spec l.spec) k p (ForOpen f n fs) first same (λ z. a)
+      (λ j z.
+      (
+      let i = node-some k (max (begun_spec l.spec (k - 0)) (begun_files (files l.names) (k - (0 + width_spec l.spec)))) (omega arith) in
+      let r : k - 0 ≡ suc j = omega arith in
+      reach-specifier lines m (ForDeclaration h) l.spec (suc j) p v.0 (omega (arith, a, b, local-begun l k, y, i)) (omega (arith, b, local-begun l k, y, i, ap (begun_spec l.spec) r))
+      )))
+      (λ j g.
+      (
+      let i = node-some k (max (begun_spec l.spec (k - 0)) (begun_files (files l.names) (k - (0 + width_spec l.spec)))) (omega arith) in
+      let c : begun_spec l.spec (k - 0) ≡ height_spec l.spec = full-spec l.spec (k - 0) v.0 (omega arith) in
+      let r : k - (0 + width_spec l.spec) ≡ suc j = omega arith in
+      reach-names lines m h l.spec p (files l.names) (suc j) q (valid-files l.spec l.names v.1) (may-declare o l.names) (omega (arith, a, b, local-begun l k, y, i, c, spec-place lines p l.spec))
+      (omega (arith, b, local-begun l k, y, i, ap (begun_files (files l.names)) r))
+      ))
       )
