@@ -2,7 +2,8 @@
 use Rattle.std.proofs.Common.{◌≡◌, ◌==◌, ℕ, suc, ◌<◌, ◌⊎◌, Bool, true, false, List, length, get_or, set, [], ◌∷◌, arith, Option, Some, None, ap, ⊎_elim, inl, inr, sym, ◌∙◌, get_or-set_same, get_or-set_other, refl, if◌then◌else◌}
 use Rattle.std.proofs.lemmas.Bool.{cases_eq, cases_Bool, both_ways, eq-eqb, ne_eqb, cond-true, cond-false}
 use Rattle.std.proofs.Math.ListN.{get_or-map}
-use Rattle.ob_away.specs.Slots.{Pair, Slots, IsInterned, holds, is_of, slot_of, pair_in, without}
+use Rattle.ob_model.specs.Descriptors.{Pair, Slots, IsInterned, holds, slot_of, pair_in}
+use Rattle.ob_away.specs.Slots.{is_of, without}
 use Rattle.ob_away.specs.Kept.{Index, named, mark_of, free_below, IsIndexed, IsMarked}
 use Rattle.ob_away.proofs.Positions.{none_before}
 use Rattle.ob_away.proofs.Pairs.{within_slots, same_pair-same}

@@ -3,7 +3,7 @@ use Rattle.std.proofs.Common.{◌≡◌, ℕ, zero, suc, ◌<◌, ◌≤◌, tru
 use Rattle.std.specs.Prelude.{is_none, IfNone, IfSome}
 use Rattle.std.specs.Option.{option_to_list}
 use Rattle.std.proofs.lemmas.Bool.{cases_Bool, cases_eq, cond-true, cond-false}
-use Rattle.ob_away.specs.Slots.{Pair, Slots, vacant, pair_in}
+use Rattle.ob_model.specs.Descriptors.{Pair, Slots, vacant, pair_in}
 use Rattle.ob_away.specs.Kept.{free_below}
 use Rattle.ob_away.proofs.Positions.{position_is, position_none, none_before}
 

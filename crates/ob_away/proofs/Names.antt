@@ -2,7 +2,7 @@
 use Rattle.std.proofs.Common.{◌≡◌, ℕ, ◌+◌, ◌<◌, length, arith, Some, None, ap, ⊎_elim, sym, ◌∙◌}
 use Rattle.std.proofs.lemmas.Bool.{both_ways, cases_Bool, cases_eq}
 use Rattle.ob_away.proofs.Positions.{none_before}
-use Rattle.ob_away.specs.Slots.{Pair, Slots, IsInterned, same_pair, holds, slot_of, pair_in}
+use Rattle.ob_model.specs.Descriptors.{Pair, Slots, IsInterned, same_pair, holds, slot_of, pair_in}
 use Rattle.ob_away.specs.Kept.{Index, named, NamesOthers, IsIndexed}
 use Rattle.ob_away.proofs.Pairs.{same_pair-true, within_slots}
 

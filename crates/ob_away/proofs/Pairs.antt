@@ -4,7 +4,7 @@ use Rattle.std.specs.Cmp.{signed_Decides}
 use Rattle.std.specs.Ordering.{int_eq}
 use Rattle.std.proofs.lemmas.Bool.{and_parts, and_from, eq-eqb, eqb-true, both_ways, cases_lt, false_from_ne_true}
 use Rattle.std.proofs.lemmas.List.{get_or_past}
-use Rattle.ob_away.specs.Slots.{Pair, Slots, same_pair, holds, slot_of, pair_in}
+use Rattle.ob_model.specs.Descriptors.{Pair, Slots, same_pair, holds, slot_of, pair_in}
 use Rattle.ob_away.specs.Kept.{Index, named, IsIndexed}
 use Rattle.ob_away.proofs.Positions.{position_is, position_none}
 

@@ -6,7 +6,7 @@ use Rattle.std.proofs.lemmas.List.{get_or_append_left, get_or-append_right, get_
 use Rattle.std.proofs.lemmas.List.Sums.{sum_by-cons, sum_by-set, count_by-le-length}
 use Rattle.std.proofs.lemmas.List.Quantifiers.{position-Some}
 use Rattle.std.proofs.Math.Seq.{set-append_seam}
-use Rattle.ob_away.specs.Slots.{Pair, Slots, holds, slot_of, pair_in, pair_count, vacant, put_slot, with_pair, free_slot}
+use Rattle.ob_model.specs.Descriptors.{Pair, Slots, holds, slot_of, pair_in, pair_count, vacant, put_slot, with_pair, free_slot}
 use Rattle.ob_away.specs.Kept.{free_below}
 use Rattle.ob_away.proofs.FreeList.{vacant-empty, free_below-used, free_below-same, pair_in-set_same, pair_in-set_other}
 use Rattle.ob_away.proofs.Positions.{position_none, none_before}

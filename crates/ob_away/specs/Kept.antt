@@ -6,7 +6,7 @@ use Rattle.std.specs.Vec.{vec_capacity}
 use Rattle.std.specs.declared.hash.FoldHasher.{FoldHasher}
 use Rattle.std.specs.declared.hash.BuildHasherDefault.{BuildHasherDefault}
 use Rattle.std.specs.HashMap.{HashMap, get, hash_map_len, spare}
-use Rattle.ob_away.specs.Slots.{Pair, Slots, IsInterned, same_pair, pair_in}
+use Rattle.ob_model.specs.Descriptors.{Pair, Slots, IsInterned, same_pair, pair_in}
 
 -- a hash map from pairs to slots
 abbrev pub Index : Type 0
@@ -17,8 +17,8 @@ abbrev pub named : Index → Pair → Option ℕ
 named index pair = get same_pair index pair
 
 -- how many pairs the index holds without more memory
-abbrev pub room : Index → ℕ
-room index = hash_map_len index + spare index
+abbrev pub capacity : Index → ℕ
+capacity index = hash_map_len index + spare index
 
 -- the index names the slot of each pair that stands in one; what it names for other pairs is left open
 pub record IsIndexed (index : Index) (slots : Slots) : Type 0 where
@@ -49,6 +49,6 @@ pub record IsKept (limit : ℕ) (slots : Vec (Option Pair)) (free : Vec ℕ) (in
   pub listed : free.items ≡ free_below slots.items (length slots.items)
   pub marked : IsMarked marks slots.items
   pub marks_long : length marks ≡ 65536
-  pub roomy : limit < room index
+  pub roomy : limit < capacity index
   pub slots_fit : limit ≤ vec_capacity slots
   pub free_fit : limit ≤ vec_capacity free

@@ -1,71 +1,15 @@
--- Out-of-bounds descriptors, after Ruwase and Lam, "A practical dynamic buffer overflow detector"
--- (NDSS 2004): a pointer that has left its object is kept as a pair of the object and its offset in
--- bytes, and the machine holds the word of the slot that the pair stands in.
-use Rattle.std.specs.Prelude.{◌≡◌, ℕ, ◌+◌, ◌*◌, ◌^◌, ℤ, Bool, false, ◌&&◌, ◌==◌, List, [], ◌∷◌, ◌++◌, length, Option, Some, None, if◌then◌else◌, map, position, is_none, is_some, count_by, unwrap_or, slice_index_or, slice_set}
-use Rattle.std.specs.Ordering.{int_eq}
+-- The table of out-of-bounds descriptors, and its slots once an object's are freed.
+use Rattle.std.specs.Prelude.{ℕ, ◌==◌, Bool, Option}
+use Rattle.ob_model.specs.Descriptors.{Pair, Slots, is_dying, surviving_pairs}
 
--- an object and an offset in bytes, which may be negative
-abbrev pub Pair : Type 0
-Pair = ℕ × ℤ
-
--- the slots that were ever used, each free or with a pair
-abbrev pub Slots : Type 0
-Slots = List (Option Pair)
-
--- the slots, and how many pairs may stand at a time. The slots past the last are free
+-- the slots, and how many pairs may stand at a time
 pub record Descriptors : Type 0 where
   pub limit : ℕ
   pub slots : Slots
 
-abbrev pub same_pair : Pair → Pair → Bool
-same_pair p q = (p.0 == q.0) && int_eq p.1 q.1
-
--- whether a slot holds this pair
-abbrev pub holds : Pair → Option Pair → Bool
-holds pair None = false
-holds pair (Some other) = same_pair pair other
-
 -- whether a slot holds a pair of this object
 abbrev pub is_of : ℕ → Option Pair → Bool
-is_of object None = false
-is_of object (Some pair) = object == pair.0
+is_of object slot = is_dying (λ other. object == other) slot
 
--- the slot that holds the pair, where the pair is listed
-abbrev pub slot_of : Slots → Pair → Option ℕ
-slot_of slots pair = position (holds pair) slots
-
--- how many pairs stand
-abbrev pub pair_count : Slots → ℕ
-pair_count slots = count_by is_some slots
-
--- the least free one of the slots that were ever used
-abbrev pub vacant : Slots → Option ℕ
-vacant slots = position is_none slots
-
--- the least free slot, which may be the one past the last
-abbrev pub free_slot : Slots → ℕ
-free_slot slots = unwrap_or (vacant slots) (length slots)
-
--- the slots with a pair in the least free one
-abbrev pub put_slot : Option ℕ → Pair → Slots → Slots
-put_slot None pair slots = slots ++ Some pair ∷ []
-put_slot (Some k) pair slots = slice_set slots k (Some pair)
-
-abbrev pub with_pair : Pair → Slots → Slots
-with_pair pair slots = put_slot (vacant slots) pair slots
-
--- what slot k holds; nothing past the last slot
-abbrev pub pair_in : Slots → ℕ → Option Pair
-pair_in slots k = slice_index_or slots k None
-
--- no pair stands in two slots
-abbrev pub IsInterned : Slots → Type 0
-IsInterned slots = (i j : ℕ) (pair : Pair) → pair_in slots i ≡ Some pair → pair_in slots j ≡ Some pair → i ≡ j
-
--- the word of slot k
-abbrev pub word_of : ℕ → ℕ
-word_of k = 2 ^ 40 + 16 * k
-
--- the slots once an object's are freed
 abbrev pub without : ℕ → Slots → Slots
-without object slots = map (λ slot. if is_of object slot then None else slot) slots
+without object slots = surviving_pairs (λ other. object == other) slots

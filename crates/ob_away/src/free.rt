@@ -1,5 +1,6 @@
 ghost use Rattle.std.specs.Prelude.{◌≡◌, ℕ, ◌<◌, ◌≤◌, ◌^◌, [], ◌∷◌, ◌++◌, length, if◌then◌else◌, Some, None, is_some, MatchOption, IfSome, IfNone, slice_set, vec_capacity};
-ghost use Rattle.ob_away.specs.Slots.{Pair, pair_count, vacant, free_slot, with_pair, pair_in, without, is_of};
+ghost use Rattle.ob_model.specs.Descriptors.{Pair, pair_count, vacant, free_slot, with_pair, pair_in};
+ghost use Rattle.ob_away.specs.Slots.{without, is_of};
 ghost use Rattle.ob_away.specs.Kept.{free_below};
 
 /// The least free one of the slots that were ever used, taken off the list.

@@ -1,7 +1,7 @@
 ghost use Rattle.std.specs.Prelude.{◌≡◌, ℕ, ◌+◌, ◌^◌, ◌<◌, ◌≤◌, List, length, false, None, Some};
 ghost use Rattle.std.specs.HashMap.{spare};
-ghost use Rattle.ob_away.specs.Slots.{Pair, same_pair, IsInterned, holds, slot_of, pair_in};
-ghost use Rattle.ob_away.specs.Kept.{named, room, IsIndexed, NamesOthers};
+ghost use Rattle.ob_model.specs.Descriptors.{Pair, same_pair, IsInterned, holds, slot_of, pair_in};
+ghost use Rattle.ob_away.specs.Kept.{named, capacity, IsIndexed, NamesOthers};
 
 use std::collections::HashMap;
 
@@ -42,7 +42,7 @@ fn add(index: &mut Index, pair: (u64, i64), slot: u32)
     requires { 0 < spare index.old }
     ensures named { named index.new pair ≡ Some slot }
     ensures others { NamesOthers index.old index.new pair }
-    ensures room { named index.old pair ≡ None → room index.old ≤ room index.new }
+    ensures room { named index.old pair ≡ None → capacity index.old ≤ capacity index.new }
     ensures spare { spare index.old ≤ spare index.new + 1 }
 {
     let _ = index.insert(pair, slot);
@@ -53,7 +53,7 @@ pub(crate) fn point(index: &mut Index, pair: (u64, i64), slot: u32)
     requires { 0 < spare index.old }
     ensures named { named index.new pair ≡ Some slot }
     ensures others { NamesOthers index.old index.new pair }
-    ensures room { room index.old ≤ room index.new }
+    ensures room { capacity index.old ≤ capacity index.new }
     ensures spare { spare index.old ≤ spare index.new + 1 }
 {
     if let Some(known) = index.get_mut(&pair) {
@@ -67,9 +67,9 @@ pub(crate) fn point(index: &mut Index, pair: (u64, i64), slot: u32)
 fn renew(index: &mut Index, slots: &[Option<(u64, i64)>])
     requires distinct { IsInterned slots.now }
     requires count { length slots.now < 2 ^ 32 }
-    requires enough { length slots.now < room index.old }
+    requires enough { length slots.now < capacity index.old }
     ensures indexed { IsIndexed index.new slots.now }
-    ensures room { room index.old ≤ room index.new }
+    ensures room { capacity index.old ≤ capacity index.new }
     ensures spare { 0 < spare index.new }
 {
     index.clear();
@@ -85,9 +85,9 @@ fn make_spare(index: &mut Index, slots: &[Option<(u64, i64)>])
     requires indexed { IsIndexed index.old slots.now }
     requires distinct { IsInterned slots.now }
     requires count { length slots.now < 2 ^ 32 }
-    requires enough { length slots.now < room index.old }
+    requires enough { length slots.now < capacity index.old }
     ensures indexed { IsIndexed index.new slots.now }
-    ensures room { room index.old ≤ room index.new }
+    ensures room { capacity index.old ≤ capacity index.new }
     ensures spare { 0 < spare index.new }
 {
     if index.len() == index.capacity() {
@@ -101,10 +101,10 @@ pub(crate) fn note(index: &mut Index, slots: &[Option<(u64, i64)>], pair: (u64, 
     requires distinct { IsInterned slots.now }
     requires absent { slot_of slots.now pair ≡ None }
     requires count { length slots.now < 2 ^ 32 }
-    requires enough { length slots.now < room index.old }
+    requires enough { length slots.now < capacity index.old }
     ensures indexed { IsIndexed index.new slots.now }
     ensures named { named index.new pair ≡ Some slot }
-    ensures room { room index.old ≤ room index.new }
+    ensures room { capacity index.old ≤ capacity index.new }
 {
     make_spare(index, slots);
     point(index, pair, slot);

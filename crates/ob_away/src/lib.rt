@@ -1,7 +1,7 @@
 //! Out-of-bounds descriptors: the table that gives each pointer outside its object a word of its own.
 //! Promises: a pair of an object and an offset has one word for as long as it is listed, a new pair
-//! gets the least free slot, and the answer is `Full` exactly where no slot is free. Stands on ob_base
-//! for `NoMemory`; after `new` it takes no memory.
+//! gets the least free slot, and the answer is `Full` exactly where no slot is free. Stands on ob_model
+//! for the slots and their words and on ob_base for `NoMemory`; after `new` it takes no memory.
 #![tactic(auto)]
 
 pub use table::{AwayTable, Full};

@@ -1,5 +1,5 @@
 ghost use Rattle.std.specs.Prelude.{◌≡◌, ◌≢◌, ℕ, ◌<◌, false, Some, length, slice_set, slice_index_or};
-ghost use Rattle.ob_away.specs.Slots.{Pair, pair_in};
+ghost use Rattle.ob_model.specs.Descriptors.{Pair, pair_in};
 ghost use Rattle.ob_away.specs.Kept.{mark_of};
 
 /// How many marks there are.

@@ -1,5 +1,6 @@
-ghost use Rattle.std.specs.Prelude.{◌≡◌, ℕ, ◌<◌, ◌≤◌, ◌↔◌, [], None, Some, Ok, IsErr, IsSome, IfOk, IfSome, OnErr};
-ghost use Rattle.ob_away.specs.Slots.{Descriptors, IsInterned, slot_of, pair_count, pair_in, word_of, without};
+ghost use Rattle.std.specs.Prelude.{◌≡◌, ◌<◌, ◌≤◌, ◌↔◌, [], None, Some, Ok, IsErr, IfOk, IfSome, OnErr};
+ghost use Rattle.ob_model.specs.Descriptors.{IsInterned, slot_of, pair_count, named_pair, word_of};
+ghost use Rattle.ob_away.specs.Slots.{Descriptors, without};
 ghost use Rattle.ob_away.specs.Enters.{Enters};
 
 use crate::free::{claim, free_slots_of, list_free};
@@ -105,8 +106,7 @@ impl AwayTable {
     /// The pair that stands in the slot whose word is `w`; `None` exactly where `w` is the word of no
     /// slot that holds one.
     pub fn read(&self, w: u64) -> Option<(u64, i64)>
-        ensures slot { (k : ℕ) → w ≡ word_of k → result ≡ pair_in self.now.slots k }
-        ensures word { IsSome result → (k : ℕ) × (w ≡ word_of k) }
+        ensures pair { result ≡ named_pair self.now.slots w }
         ensures interned { IsInterned self.now.slots }
     {
         let slots = self.slots.as_slice();

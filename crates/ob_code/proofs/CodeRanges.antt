@@ -6,26 +6,26 @@ use Rattle.ob_code.specs.Frames.{function_at, no_function}
 use Rattle.ob_code.specs.Rules.{AreFunctionsSound, IsCodeOf, IsCodeSound, IsInstructionSound, code_end, entry_or}
 
 -- the code of a function ends at the next entry, or with the code
-pub code_end_cases : (image : Image) (f : ℕ) → ((f + 1 < length image.functions) × (code_end image f ≡ (function_at image (f + 1)).entry)) ⊎ ((length image.functions ≤ f + 1) × (code_end image f ≡ length image.code))
+pub code_end_cases : (image : Image) (f : ℕ) → ((f + 1 < length image.functions) × (code_end image f ≡ (function_at image.functions (f + 1)).entry)) ⊎ ((length image.functions ≤ f + 1) × (code_end image f ≡ length image.code))
 code_end_cases image f =
     elim (slice_get_cases image.functions (f + 1)).1 [
       | inl w ↦ inl (w.1, ap (λ o. entry_or o (length image.code)) (slice_get-get_or image.functions (f + 1) no_function w.1))
       | inr w ↦ inr (w.0, ap (λ o. entry_or o (length image.code)) w.1)
     ]
 
-next_entry : (image : Image) (f : ℕ) → AreFunctionsSound image → f + 1 < length image.functions → (function_at image f).entry < (function_at image (f + 1)).entry
+next_entry : (image : Image) (f : ℕ) → AreFunctionsSound image → f + 1 < length image.functions → (function_at image.functions f).entry < (function_at image.functions (f + 1)).entry
 next_entry image f sound h =
     let e : f + 1 - 1 ≡ f = omega arith in
-    subst (λ k. (function_at image k).entry < (function_at image (f + 1)).entry) e ((sound.rows.each (f + 1) h).entry.order (omega arith))
+    subst (λ k. (function_at image.functions k).entry < (function_at image.functions (f + 1)).entry) e ((sound.rows.each (f + 1) h).entry.order (omega arith))
 
-pub entry_before_end : (image : Image) (f : ℕ) → AreFunctionsSound image → f < length image.functions → (function_at image f).entry < code_end image f
+pub entry_before_end : (image : Image) (f : ℕ) → AreFunctionsSound image → f < length image.functions → (function_at image.functions f).entry < code_end image f
 entry_before_end image f sound h =
     elim (code_end_cases image f) [
       | inl w ↦ rw w.1 (next_entry image f sound w.0)
       | inr w ↦ rw w.1 ((sound.rows.each f h).entry.in_code)
     ]
 
-entries_rise : (image : Image) (f d : ℕ) → AreFunctionsSound image → f + suc d < length image.functions → (function_at image f).entry < (function_at image (f + suc d)).entry
+entries_rise : (image : Image) (f d : ℕ) → AreFunctionsSound image → f + suc d < length image.functions → (function_at image.functions f).entry < (function_at image.functions (f + suc d)).entry
 entries_rise image f zero sound h =
     let e : f + suc 0 ≡ f + 1 = omega arith in
     rw e (next_entry image f sound (omega arith))
@@ -34,14 +34,14 @@ entries_rise image f (suc d) sound h =
     rw e (omega (arith, entries_rise image f d sound (omega arith), next_entry image (f + suc d) sound (omega arith)))
 
 -- the code of an earlier function ends before a later one's begins
-earlier_ends : (image : Image) (f g : ℕ) → AreFunctionsSound image → f < g → g < length image.functions → code_end image f ≤ (function_at image g).entry
+earlier_ends : (image : Image) (f g : ℕ) → AreFunctionsSound image → f < g → g < length image.functions → code_end image f ≤ (function_at image.functions g).entry
 earlier_ends image f g sound less h =
     elim (code_end_cases image f) [
       | inl w ↦ rw w.1 (by_gap (g - (f + 1)) (omega arith))
       | inr w ↦ absurd (omega arith)
     ]
   where
-    by_gap : (d : ℕ) → g ≡ f + 1 + d → (function_at image (f + 1)).entry ≤ (function_at image g).entry
+    by_gap : (d : ℕ) → g ≡ f + 1 + d → (function_at image.functions (f + 1)).entry ≤ (function_at image.functions g).entry
     by_gap zero e = let s : g ≡ f + 1 = omega arith in rw s (omega arith)
     by_gap (suc d) e = rw e (omega (arith, entries_rise image (f + 1) d sound (omega arith)))
 

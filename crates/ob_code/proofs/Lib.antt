@@ -1,2 +1,3 @@
 pub mod CodeRanges
 pub mod Counts
+pub mod Blocks

@@ -162,3 +162,45 @@ abbrev pub past_the_end : Image
 past_the_end =
     image_of 6 48 (static_of 2 ∷ [])
     (Static 2 (pos 1) ∷ Set 3 (pos 8) ∷ Set 4 (pos 7) ∷ Store (Num char_type) 1 4 2 3 ∷ Load (Num char_type) 2 5 2 3 ∷ PutChar 4 5 ∷ Set 2 (pos 0) ∷ Return 2 ∷ [])
+
+-- ---- stray accesses
+
+-- stores 7 in two granules past an object, loads from the first, stores in a third, and writes what the first and the second
+-- then give
+abbrev pub recency : Image
+recency =
+    image_of 7 64 (static_of 2 ∷ [])
+    (Static 2 (pos 1) ∷ Set 4 (pos 7) ∷ Set 3 (pos 8) ∷ Store (Num char_type) 1 4 2 3 ∷ Set 3 (pos 16) ∷ Store (Num char_type) 2 4 2 3
+    ∷ Set 3 (pos 8) ∷ Load (Num char_type) 3 5 2 3 ∷ Set 3 (pos 24) ∷ Store (Num char_type) 4 4 2 3 ∷ Set 3 (pos 8) ∷ Load (Num char_type) 5 5 2 3
+    ∷ Set 3 (pos 16) ∷ Load (Num char_type) 6 6 2 3 ∷ PutChar 5 5 ∷ PutChar 6 6 ∷ Set 2 (pos 0) ∷ Return 2 ∷ [])
+
+-- stores 7 as an `int` at offset 2 of an object of eight bytes, loads from there, and then twice through null; writes the sum
+-- of what the last two give
+abbrev pub ill_aligned : Image
+ill_aligned =
+    image_of 7 64 (static_of 8 ∷ [])
+    (Static 2 (pos 1) ∷ Set 4 (pos 7) ∷ Set 3 (pos 2) ∷ Store (Num int_type) 1 4 2 3 ∷ Load (Num int_type) 2 5 2 3 ∷ Set 2 (pos 0)
+    ∷ Load (Num int_type) 3 5 2 3 ∷ Load (Num char_type) 4 6 2 3 ∷ Binary int_type Add 5 5 6 ∷ PutChar 5 5 ∷ Set 2 (pos 0) ∷ Return 2 ∷ [])
+
+-- stores a pointer in an object, and writes whether it is loaded again; then stores 7 over its first byte, and writes
+-- whether null is loaded, and the number there
+abbrev pub pointer_in_granule : Image
+pointer_in_granule =
+    image_of 7 64 (static_of 16 ∷ [])
+    (Static 2 (pos 1) ∷ Set 3 (pos 8) ∷ Store Ptr 1 2 2 3 ∷ Load Ptr 2 4 2 3 ∷ Same 5 4 2 ∷ PutChar 5 5 ∷ Set 4 (pos 7)
+    ∷ Store (Num char_type) 3 4 2 3 ∷ Load Ptr 4 4 2 3 ∷ Set 5 (pos 0) ∷ Same 5 4 5 ∷ PutChar 5 5 ∷ Load (Num long_type) 5 4 2 3 ∷ PutChar 4 4
+    ∷ Set 2 (pos 0) ∷ Return 2 ∷ [])
+
+-- moves an allocated pointer out of bounds, frees its object, and does the same with another; gives whether both moved
+-- pointers are one word
+abbrev pub reused_slot : Image
+reused_slot =
+    image_of 7 64 []
+    (Set 3 (pos 5) ∷ Malloc 2 3 ∷ Set 4 (pos 100) ∷ Shift 5 2 4 ∷ Free 0 2 ∷ Malloc 2 3 ∷ Set 4 (pos 50) ∷ Shift 6 2 4 ∷ Same 3 5 6 ∷ Return 3 ∷ [])
+
+-- stores past an allocated object, frees it and allocates at its place again, and writes what is loaded from there
+abbrev pub forgotten : Image
+forgotten =
+    image_of 7 64 []
+    (Set 3 (pos 5) ∷ Malloc 2 3 ∷ Set 4 (pos 8) ∷ Store (Num char_type) 1 3 2 4 ∷ Free 0 2 ∷ Malloc 2 3 ∷ Load (Num char_type) 2 5 2 4
+    ∷ PutChar 5 5 ∷ Set 2 (pos 0) ∷ Return 2 ∷ [])

@@ -8,16 +8,15 @@ use Rattle.ob_model.specs.declared.objects.Sort.TheVariants.{Automatic}
 use Rattle.ob_model.specs.Entries.{with_entry}
 use Rattle.ob_flat.specs.Memory.{field, with_field, with_zeros}
 use Rattle.ob_code.specs.declared.image.FunctionRow.{FunctionRow}
-use Rattle.ob_code.specs.declared.image.Image.{Image}
 use Rattle.ob_code.specs.declared.image.LocalRow.{LocalRow}
-use Rattle.ob_code.specs.State.{Call, Space, without_objects}
+use Rattle.ob_code.specs.State.{Call, Space, after_death}
 
--- a function of the image
+-- a function by its number
 abbrev pub no_function : FunctionRow
 no_function = record { entry = 0; params = 0; words = 0; vars = 0; allowance = 0; locals = [] }
 
-abbrev pub function_at : Image → ℕ → FunctionRow
-function_at image f = slice_index_or image.functions f no_function
+abbrev pub function_at : List FunctionRow → ℕ → FunctionRow
+function_at functions f = slice_index_or functions f no_function
 
 -- where the words of a frame end, where its last local block ends, and where the frame does
 abbrev pub words_end : ℕ → ℕ
@@ -41,13 +40,13 @@ abbrev pub top_base : List Call → ℕ
 top_base [] = 0
 top_base (c ∷ cs) = c.base
 
-abbrev pub top_function : Image → List Call → FunctionRow
-top_function image [] = no_function
-top_function image (c ∷ cs) = function_at image c.function
+abbrev pub top_function : List FunctionRow → List Call → FunctionRow
+top_function functions [] = no_function
+top_function functions (c ∷ cs) = function_at functions c.function
 
-abbrev pub next_base : Image → List Call → ℕ
-next_base image [] = 16777216
-next_base image (c ∷ cs) = c.base + frame_length (function_at image c.function)
+abbrev pub next_base : List FunctionRow → List Call → ℕ
+next_base functions [] = 16777216
+next_base functions (c ∷ cs) = c.base + frame_length (function_at functions c.function)
 
 -- a word of the innermost call's frame
 abbrev pub frame_word : Space → ℕ → ℕ
@@ -66,12 +65,12 @@ with_words s i [] = s
 with_words s i (w ∷ ws) = with_words (with_word s i w) (i + 1) ws
 
 -- a call would not fit: the allowances of the calls in progress and its own are more than the stack has
-abbrev pub allowances : Image → List Call → ℕ
-allowances image [] = 0
-allowances image (c ∷ cs) = (function_at image c.function).allowance + allowances image cs
+abbrev pub allowances : List FunctionRow → List Call → ℕ
+allowances functions [] = 0
+allowances functions (c ∷ cs) = (function_at functions c.function).allowance + allowances functions cs
 
-abbrev pub is_full : Image → ℕ → List Call → Bool
-is_full image f calls = nat_lt 1048576 ((function_at image f).allowance + allowances image calls)
+abbrev pub is_full : List FunctionRow → ℕ → List Call → Bool
+is_full functions f calls = nat_lt 1048576 ((function_at functions f).allowance + allowances functions calls)
 
 -- the objects of a call: each local row's has the number of its ordinal after the call's first
 abbrev pub local_entry : ℕ → ℕ → LocalRow → Entry
@@ -91,12 +90,12 @@ entered_at row f link base s =
       next = s.next + row.vars;
     }
 
-abbrev pub entered : Image → ℕ → ℕ → Space → Space
-entered image f link s = entered_at (function_at image f) f link (next_base image s.calls) s
+abbrev pub entered : List FunctionRow → ℕ → ℕ → Space → Space
+entered functions f link s = entered_at (function_at functions f) f link (next_base functions s.calls) s
 
 -- leaving the innermost call: its objects die
 abbrev pub is_among : ℕ → ℕ → ℕ → Bool
 is_among first count object = nat_le first object && nat_lt object (first + count)
 
-abbrev pub left_call : Image → Call → List Call → Space → Space
-left_call image c cs s = record (without_objects (is_among c.first (function_at image c.function).vars) s) { calls = cs }
+abbrev pub left_call : List FunctionRow → Call → List Call → Space → Space
+left_call functions c cs s = record (after_death (is_among c.first (function_at functions c.function).vars) s) { calls = cs }

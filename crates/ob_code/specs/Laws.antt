@@ -3,21 +3,22 @@
 use Rattle.std.specs.Prelude.{◌≡◌, ℕ, ◌+◌, ◌*◌, ◌≤◌, pos, negsuc, List, [], ◌∷◌, length}
 use Rattle.ob_model.specs.declared.endings.Ending.{Ending}
 use Rattle.ob_model.specs.declared.endings.Ending.TheVariants.{Ended, Steps, Divide, Stack, Descriptors, Far, Spent, ReadFault}
+use Rattle.ob_model.specs.declared.settings.Mode.{Mode}
 use Rattle.ob_model.specs.declared.settings.Mode.TheVariants.{Oblivious, Boundless}
 use Rattle.ob_model.specs.declared.settings.RunSettings.{RunSettings}
 use Rattle.ob_model.specs.declared.strays.Act.TheVariants as act
 use Rattle.ob_model.specs.declared.strays.StrayEvent.{StrayEvent}
 use Rattle.ob_model.specs.Endings.{InputEnd, closed, failed, plain}
 use Rattle.ob_code.specs.declared.image.Image.{Image}
-use Rattle.ob_code.specs.Courses.{stray_event}
+use Rattle.ob_code.specs.Accesses.{stray_event}
 use Rattle.ob_code.specs.Examples as examples
 use Rattle.ob_code.specs.Examples.{settings_of}
-use Rattle.ob_code.specs.Start.{flat_instructions, laid_out, run_from, outcome_of}
+use Rattle.ob_code.specs.Start.{flat_final, flat_instructions, laid_out, run_from, outcome_of}
 use Rattle.ob_code.specs.State.{Final}
 
 abbrev pub run_on : Image → RunSettings → List ℕ → InputEnd → Final
 run_on image settings input input_end =
-    run_from (record { image = image; settings = settings; cycle = 0 ∷ 1 ∷ 2 ∷ []; input_end = input_end }) (laid_out 256 image settings) 0 input 10
+    run_from (record { image = image; settings = settings; cycle = 0 ∷ 1 ∷ 2 ∷ []; input_end = input_end }) (laid_out 256 image.statics image.pointers settings) 0 input 10
 
 -- without input, with room for one out-of-bounds pointer and 32 bytes of heap
 abbrev pub small_run : Image → Final
@@ -26,7 +27,7 @@ small_run image = run_on image (settings_of Oblivious 1 32) [] closed
 -- the run ends so, after so many instructions, with this output, these stray accesses and this place in the cycle
 abbrev pub Gives : Final → Ending → ℕ → List ℕ → List StrayEvent → ℕ → Type 0
 Gives f ending count output events place =
-    (outcome_of f ≡ record { finish = plain ending; output = output; events = events; place = place }) × (f.state.count ≡ count)
+    (outcome_of f ≡ record { finish = plain ending; output = output; events = events; cycle_place = place }) × (f.state.instructions ≡ count)
 
 -- the same where nothing is written and nothing goes astray
 abbrev pub Ends : Final → Ending → ℕ → Type 0
@@ -116,6 +117,37 @@ StoreVanishesOrIsKept =
     Gives (small_run examples.past_the_end) (Ended (pos 0)) 8 (0 ∷ []) (stray_event 1 act.Store 1 (pos 8) 1 ∷ stray_event 2 act.Load 1 (pos 8) 1 ∷ []) 1
     × Gives (run_on examples.past_the_end (settings_of Boundless 1 32) [] closed) (Ended (pos 0)) 8 (7 ∷ []) (stray_event 1 act.Store 1 (pos 8) 1 ∷ stray_event 2 act.Load 1 (pos 8) 1 ∷ []) 0
 
+-- ---- stray accesses and death
+
+-- of three granules the bounded list, which keeps two here, has dropped the one that was not used last
+abbrev pub LeastRecentlyUsedLeaves : Type 0
+LeastRecentlyUsedLeaves =
+    Gives (run_on examples.recency (settings_of Boundless 1 32) [] closed) (Ended (pos 0)) 18 (7 ∷ 0 ∷ [])
+    (stray_event 1 act.Store 1 (pos 8) 1 ∷ stray_event 2 act.Store 1 (pos 16) 1 ∷ stray_event 3 act.Load 1 (pos 8) 1
+    ∷ stray_event 4 act.Store 1 (pos 24) 1 ∷ stray_event 5 act.Load 1 (pos 8) 1 ∷ stray_event 6 act.Load 1 (pos 16) 1 ∷ []) 1
+
+-- an ill-aligned access vanishes in both modes, and so does one through null, which is told with object 0
+abbrev pub IllAlignedVanishes : Mode → Type 0
+IllAlignedVanishes mode =
+    Gives (run_on examples.ill_aligned (settings_of mode 1 32) [] closed) (Ended (pos 0)) 12 (3 ∷ [])
+    (stray_event 1 act.Store 1 (pos 2) 4 ∷ stray_event 2 act.Load 1 (pos 2) 4 ∷ stray_event 3 act.Load 0 (pos 2) 4
+    ∷ stray_event 4 act.Load 0 (pos 2) 1 ∷ []) 0
+
+abbrev pub VanishesInBothModes : Type 0
+VanishesInBothModes = IllAlignedVanishes Oblivious × IllAlignedVanishes Boundless
+
+abbrev pub PointerIsStoredWhole : Type 0
+PointerIsStoredWhole = Gives (small_run examples.pointer_in_granule) (Ended (pos 0)) 16 (1 ∷ 1 ∷ 7 ∷ []) [] 0
+
+abbrev pub FreedSlotIsReused : Type 0
+FreedSlotIsReused = Ends (small_run examples.reused_slot) (Ended (pos 1)) 10
+
+-- a dead object's granules are none of the next object's at its place
+abbrev pub DeadGranulesAreForgotten : Type 0
+DeadGranulesAreForgotten =
+    Gives (run_on examples.forgotten (settings_of Boundless 1 32) [] closed) (Ended (pos 0)) 10 (0 ∷ [])
+    (stray_event 1 act.Store 1 (pos 8) 1 ∷ stray_event 2 act.Load 2 (pos 8) 1 ∷ []) 1
+
 -- ---- every run
 
 -- every run begins no more instructions than its bound
@@ -123,3 +155,10 @@ abbrev pub RunsAreBounded : Type 0
 RunsAreBounded =
     (image : Image) (settings : RunSettings) (cycle : List ℕ) (place : ℕ) (input : List ℕ) (input_end : InputEnd) (steps : ℕ) →
     flat_instructions image settings cycle place input input_end steps ≤ (length image.code + 1) * (steps + 1)
+
+-- and exactly its bound where it ends for that
+abbrev pub SpentRunsAreExact : Type 0
+SpentRunsAreExact =
+    (image : Image) (settings : RunSettings) (cycle : List ℕ) (place : ℕ) (input : List ℕ) (input_end : InputEnd) (steps : ℕ) →
+    (flat_final image settings cycle place input input_end steps).ending ≡ Spent →
+    flat_instructions image settings cycle place input input_end steps ≡ (length image.code + 1) * (steps + 1)

@@ -1,10 +1,13 @@
 pub mod State
 pub mod Frames
 pub mod Pointers
-pub mod Courses
+pub mod Accesses
 pub mod Allocation
+pub mod Layout
 pub mod Machine
 pub mod Start
 pub mod Examples
 pub mod Laws
 pub mod Rules
+pub mod Unbuilt
+pub mod FirstFault

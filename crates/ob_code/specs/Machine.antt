@@ -1,29 +1,28 @@
 -- What each instruction does, and a run of instructions. `a` is the word that is written; `b` and `c` are words that are read.
 -- Where an instruction may end the run for want of a step and in another way, the step is tested first.
-use Rattle.std.specs.Prelude.{ℕ, zero, suc, ◌+◌, ◌-◌, ◌*◌, ◌%◌, ◌^◌, Bool, true, false, ◌==◌, ℤ, pos, ◌+ℤ◌, ◌*ℤ◌, unsigned_abs, List, [], ◌∷◌, ◌++◌, take, Option, Some, None, Result, Ok, Err, slice_get, slice_index_or, if◌then◌else◌}
+use Rattle.std.specs.Prelude.{ℕ, zero, suc, ◌+◌, ◌-◌, ◌*◌, ◌%◌, ◌^◌, Bool, true, false, ◌==◌, ℤ, pos, ◌+ℤ◌, ◌*ℤ◌, unsigned_abs, List, [], ◌∷◌, ◌++◌, Option, Some, None, Result, Ok, Err, slice_get, if◌then◌else◌}
 use Rattle.ob_words.specs.declared.types.BinOp.{BinOp}
 use Rattle.ob_words.specs.declared.types.BinOp.TheVariants.{Shl, Shr}
 use Rattle.ob_words.specs.declared.types.DivideByZero.{DivideByZero}
 use Rattle.ob_words.specs.declared.types.IntType.{IntType}
 use Rattle.ob_words.specs.declared.types.IntType.TheVariants.{Int, Long}
 use Rattle.ob_words.specs.Operators.{binary, compare}
-use Rattle.ob_words.specs.Words.{word, number, block}
+use Rattle.ob_words.specs.Words.{word, number}
 use Rattle.ob_model.specs.declared.endings.Ending.TheVariants.{Ended, Steps, Divide, Stack, Descriptors, Far, Spent, ReadFault}
 use Rattle.ob_model.specs.declared.strays.StrayEvent.{StrayEvent}
 use Rattle.ob_model.specs.declared.strays.Act.TheVariants as act
 use Rattle.ob_model.specs.declared.values.LoadKind.{LoadKind}
-use Rattle.ob_model.specs.Accesses.{bytes_of_kind, is_far, own_granules}
+use Rattle.ob_model.specs.Accesses.{bytes_of_kind, is_far}
 use Rattle.ob_model.specs.Endings.{InputEnd, closed, failed}
-use Rattle.ob_model.specs.Manufactured.{manufactured, place_after}
-use Rattle.ob_flat.specs.Memory.{with_zeros}
+use Rattle.ob_model.specs.Heap.{place_for}
+use Rattle.ob_model.specs.Manufactured.{place_after}
 use Rattle.ob_code.specs.declared.image.Image.{Image}
-use Rattle.ob_code.specs.declared.image.LocalRow.{LocalRow}
-use Rattle.ob_code.specs.declared.image.StaticRow.{StaticRow}
 use Rattle.ob_code.specs.declared.instructions.Instr.{Instr}
 use Rattle.ob_code.specs.declared.instructions.Instr.TheVariants.{Tick, Set, Move, Convert, Binary, Compare, Jump, JumpZero, JumpNonzero, Call, Return, Static, Local, Wipe, Load, Store, Slide, SlideBy, Shift, Same, Order, Difference, GetChar, PutChar, Malloc, Calloc, Free, Exit}
-use Rattle.ob_code.specs.Allocation.{Freeing, no_effect, dies, stray, allocated_at, place_word, place_for, freeing, freed}
-use Rattle.ob_code.specs.Courses.{Course, too_far, direct, own, outside, vanishing, course, read_memory, read_outside, after_outside_load, after_outside_store, after_direct_store, made_word, stray_event}
-use Rattle.ob_code.specs.Frames.{function_at, top_base, top_function, frame_word, with_word, words_from, with_words, is_full, entered, left_call}
+use Rattle.ob_code.specs.Allocation.{Freeing, allocated_at, place_word, freeing, free_event, space_after_free}
+use Rattle.ob_code.specs.Accesses.{Access, too_far, access, event_of, found_word, space_after_load, space_after_store, made_word}
+use Rattle.ob_code.specs.Frames.{function_at, frame_word, with_word, words_from, with_words, is_full, entered, left_call}
+use Rattle.ob_code.specs.Layout.{static_base, local_base, wiped}
 use Rattle.ob_code.specs.Pointers as pointers
 use Rattle.ob_code.specs.State as states
 use Rattle.ob_code.specs.State.{Setup, Space, State, Next, goes, stops, Final}
@@ -32,15 +31,15 @@ use Rattle.ob_code.specs.State.{Setup, Space, State, Next, goes, stops, Final}
 
 -- on to the next instruction, and to another place
 abbrev pub on : State → State
-on s = record s { at = s.at + 1 }
+on s = record s { counter = s.counter + 1 }
 
 abbrev pub jump : ℕ → State → State
-jump to s = record s { at = to }
+jump to s = record s { counter = to }
 
 -- a step is taken, where one is left
 abbrev pub ticked : ℕ → State → (State → Next) → Next
 ticked zero s k = stops Steps s
-ticked (suc n) s k = k (record s { left = n })
+ticked (suc n) s k = k (record s { steps = n })
 
 -- ---- words of the frame
 
@@ -81,11 +80,11 @@ at_zero (suc n) here there = there
 -- main has no arguments; another call's are the words from one on
 abbrev pub entering : Image → ℕ → ℕ → List ℕ → State → Next
 entering image f link arguments s =
-    if is_full image f s.space.calls then stops Stack s
-    else goes (record s { at = (function_at image f).entry; space = with_words (entered image f link s.space) 2 arguments })
+    if is_full image.functions f s.space.calls then stops Stack s
+    else goes (record s { counter = (function_at image.functions f).entry; space = with_words (entered image.functions f link s.space) 2 arguments })
 
 abbrev pub calling : Image → ℕ → ℕ → State → Next
-calling image f b s = entering image f (s.at + 1) (words_from s.space b (function_at image f).params) s
+calling image f b s = entering image f (s.counter + 1) (words_from s.space b (function_at image.functions f).params) s
 
 -- the result goes to the word that the call before the return place names; when `main` returns, the run ends
 abbrev pub result_word : Option Instr → ℕ
@@ -98,67 +97,39 @@ landed code link w (c ∷ cs) s = set_word (jump (link - 1) s) (result_word (sli
 
 abbrev pub returned : Image → List states.Call → ℕ → State → Next
 returned image [] w s = stops (Ended (number Int w)) s
-returned image (c ∷ cs) w s = landed image.code c.link w cs (record s { space = left_call image c cs s.space })
-
--- ---- objects
-
--- the base of a static object, numbered from 1: each lies at the end of the blocks before it
-abbrev pub blocks_of : List StaticRow → ℕ
-blocks_of [] = 0
-blocks_of (r ∷ rs) = block r.size + blocks_of rs
-
-abbrev pub static_base : List StaticRow → ℕ → ℕ
-static_base rows object = 4096 + blocks_of (take (object - 1) rows)
-
--- the base of a local object of the innermost call
-abbrev pub no_local : LocalRow
-no_local = record { ordinal = 0; place = 0; size = 0 }
-
-abbrev pub local_at : Image → Space → ℕ → LocalRow
-local_at image s i = slice_index_or (top_function image s.calls).locals i no_local
-
-abbrev pub local_base : Image → Space → ℕ → ℕ
-local_base image s i = top_base s.calls + (local_at image s i).place
-
--- its own granules become zero bytes
-abbrev pub wiped : Image → ℕ → Space → Space
-wiped image i s =
-    record s { memory = with_zeros s.memory (local_base image s i) (8 * own_granules (local_at image s i).size) }
+returned image (c ∷ cs) w s = landed image.code c.link w cs (record s { space = left_call image.functions c cs s.space })
 
 -- ---- accesses
 
-abbrev pub told : StrayEvent → State → State
-told e s = record s { events = s.events ++ e ∷ [] }
+abbrev pub told : Option StrayEvent → State → State
+told None s = s
+told (Some e) s = record s { events = s.events ++ e ∷ [] }
 
 -- a load takes the next manufactured value
 abbrev pub set_made : Setup → LoadKind → ℕ → State → Next
 set_made u kind a s =
-    set_word (record s { place = place_after u.cycle s.place }) a (made_word kind (manufactured u.cycle s.place))
+    set_word (record s { cycle_place = place_after u.cycle s.cycle_place }) a (made_word kind u.cycle s.cycle_place)
 
 abbrev pub set_or_made : Option ℕ → Setup → LoadKind → ℕ → State → Next
 set_or_made None u kind a s = set_made u kind a s
 set_or_made (Some w) u kind a s = set_word s a w
 
-abbrev pub load : Course → Setup → LoadKind → ℕ → ℕ → State → Next
-load too_far u kind line a s = stops Far s
-load (direct address) u kind line a s = set_word s a (read_memory kind s.space.memory address)
-load (own object offset address) u kind line a s =
-    set_word (told (stray_event line act.Load object offset (bytes_of_kind kind)) s) a (read_memory kind s.space.memory address)
-load (outside object offset) u kind line a s =
-    set_or_made (read_outside kind object offset s.space) u kind a
-    (record (told (stray_event line act.Load object offset (bytes_of_kind kind)) s) { space = after_outside_load object offset s.space })
-load (vanishing object offset) u kind line a s =
-    set_made u kind a (told (stray_event line act.Load object offset (bytes_of_kind kind)) s)
+abbrev pub loaded : Access → Setup → LoadKind → ℕ → ℕ → State → Next
+loaded x u kind line a s =
+    set_or_made (found_word x kind s.space) u kind a
+    (record (told (event_of x line act.Load (bytes_of_kind kind)) s) { space = space_after_load x s.space })
 
-abbrev pub store : Course → Setup → LoadKind → ℕ → ℕ → State → Next
+abbrev pub load : Access → Setup → LoadKind → ℕ → ℕ → State → Next
+load too_far u kind line a s = stops Far s
+load x u kind line a s = loaded x u kind line a s
+
+abbrev pub stored : Access → Setup → LoadKind → ℕ → ℕ → State → State
+stored x u kind line w s =
+    record (told (event_of x line act.Store (bytes_of_kind kind)) s) { space = space_after_store x u.settings.store kind w s.space }
+
+abbrev pub store : Access → Setup → LoadKind → ℕ → ℕ → State → Next
 store too_far u kind line w s = stops Far s
-store (direct address) u kind line w s = goes (on (record s { space = after_direct_store kind address w s.space }))
-store (own object offset address) u kind line w s =
-    goes (on (record (told (stray_event line act.Store object offset (bytes_of_kind kind)) s) { space = after_direct_store kind address w s.space }))
-store (outside object offset) u kind line w s =
-    goes (on (record (told (stray_event line act.Store object offset (bytes_of_kind kind)) s) { space = after_outside_store u.settings.store kind object offset w s.space }))
-store (vanishing object offset) u kind line w s =
-    goes (on (told (stray_event line act.Store object offset (bytes_of_kind kind)) s))
+store x u kind line w s = goes (on (stored x u kind line w s))
 
 -- ---- pointers
 
@@ -190,16 +161,14 @@ abbrev pub allocate : Option ℕ → ℕ → ℕ → State → Next
 allocate place n a s = set_word (record s { space = allocated_at place n s.space }) a (place_word place)
 
 abbrev pub free : Freeing → ℕ → State → Next
-free no_effect line s = goes (on s)
-free (dies e) line s = goes (on (record s { space = freed e s.space }))
-free (stray e offset) line s = goes (on (told (stray_event line act.Free e.object offset 0) s))
+free x line s = goes (on (record (told (free_event x line) s) { space = space_after_free x s.space }))
 
 -- ---- the instructions; outside the code a run ends
 
 abbrev pub act_on : Setup → Option Instr → State → Next
 act_on u None s = stops (Ended (pos 0)) s
 -- takes one step
-act_on u (Some Tick) s = ticked s.left s (λ t. goes (on t))
+act_on u (Some Tick) s = ticked s.steps s (λ t. goes (on t))
 -- a becomes a number
 act_on u (Some (Set a imm)) s = set_word s a (word imm)
 -- a becomes b
@@ -217,19 +186,19 @@ act_on u (Some (Jump imm)) s = goes (jump (unsigned_abs imm) s)
 act_on u (Some (JumpZero b imm)) s = at_zero (get s b) (goes (jump (unsigned_abs imm) s)) (goes (on s))
 act_on u (Some (JumpNonzero b imm)) s = at_zero (get s b) (goes (on s)) (goes (jump (unsigned_abs imm) s))
 -- takes a step, and calls a function with the words from b on; its result goes to a
-act_on u (Some (Call a b imm)) s = ticked s.left s (λ t. calling u.image (unsigned_abs imm) b t)
+act_on u (Some (Call a b imm)) s = ticked s.steps s (λ t. calling u.image (unsigned_abs imm) b t)
 -- gives b to the caller; from `main` the run ends with it
 act_on u (Some (Return b)) s = returned u.image s.space.calls (get s b) s
 -- a becomes the base of a static object, and of a local one
 act_on u (Some (Static a imm)) s = set_word s a (static_base u.image.statics (unsigned_abs imm))
-act_on u (Some (Local a imm)) s = set_word s a (local_base u.image s.space (unsigned_abs imm))
+act_on u (Some (Local a imm)) s = set_word s a (local_base u.image.functions s.space (unsigned_abs imm))
 -- the granules of a local object become zero bytes
-act_on u (Some (Wipe imm)) s = goes (on (record s { space = wiped u.image (unsigned_abs imm) s.space }))
+act_on u (Some (Wipe imm)) s = goes (on (record s { space = wiped u.image.functions (unsigned_abs imm) s.space }))
 -- a becomes what a checked load gives through b, displaced by the `long` c; a checked store writes a there
 act_on u (Some (Load kind line a b c)) s =
-    load (course u.settings.mode s.space (get s b) (get_number Long s c) (bytes_of_kind kind)) u kind line a s
+    load (access u.settings.mode s.space (get s b) (get_number Long s c) (bytes_of_kind kind)) u kind line a s
 act_on u (Some (Store kind line a b c)) s =
-    store (course u.settings.mode s.space (get s b) (get_number Long s c) (bytes_of_kind kind)) u kind line (get s a) s
+    store (access u.settings.mode s.space (get s b) (get_number Long s c) (bytes_of_kind kind)) u kind line (get s a) s
 -- a becomes the displacement b plus a size times c, or plus a member's offset
 act_on u (Some (Slide a b c imm)) s = slide (get_number Long s b +ℤ imm *ℤ get_number Long s c) a s
 act_on u (Some (SlideBy a b imm)) s = slide (get_number Long s b +ℤ imm) a s
@@ -242,27 +211,27 @@ act_on u (Some (Same a b c)) s = set_word s a (flag (get s b == get s c))
 act_on u (Some (Order relation a b c)) s = set_word s a (flag (pointers.order relation (target s b) (target s c)))
 act_on u (Some (Difference a b c imm)) s = set_word s a (word (pointers.difference (target s b) (target s c) imm))
 -- takes a step; a becomes the next byte of the input, or -1 at its end
-act_on u (Some (GetChar a)) s = ticked s.left s (λ t. get_char u.input_end t.input a t)
+act_on u (Some (GetChar a)) s = ticked s.steps s (λ t. get_char u.input_end t.input a t)
 -- takes a step, writes the low byte of b, and puts it into a
-act_on u (Some (PutChar a b)) s = ticked s.left s (λ t. put_char (get t b % 256) a t)
+act_on u (Some (PutChar a b)) s = ticked s.steps s (λ t. put_char (get t b % 256) a t)
 -- takes a step; a becomes the address of a new object of b bytes, or of b times c bytes, or 0
 act_on u (Some (Malloc a b)) s =
-    ticked s.left s (λ t. allocate (place_for u.settings.heap (get t b) t.space) (get t b) a t)
+    ticked s.steps s (λ t. allocate (place_for t.space.blocks u.settings.heap (get t b)) (get t b) a t)
 act_on u (Some (Calloc a b c)) s =
-    ticked s.left s (λ t. allocate (place_for u.settings.heap (get t b * get t c) t.space) (get t b * get t c) a t)
+    ticked s.steps s (λ t. allocate (place_for t.space.blocks u.settings.heap (get t b * get t c)) (get t b * get t c) a t)
 -- takes a step, and frees what b points to
-act_on u (Some (Free line b)) s = ticked s.left s (λ t. free (freeing (target t b)) line t)
+act_on u (Some (Free line b)) s = ticked s.steps s (λ t. free (freeing (target t b)) line t)
 -- takes a step, and ends the run with the `int` of b
-act_on u (Some (Exit b)) s = ticked s.left s (λ t. stops (Ended (number Int (get t b))) t)
+act_on u (Some (Exit b)) s = ticked s.steps s (λ t. stops (Ended (number Int (get t b))) t)
 
 -- ---- runs
 
 -- one instruction, which counts once it is begun
 abbrev pub counted : State → State
-counted s = record s { count = s.count + 1 }
+counted s = record s { instructions = s.instructions + 1 }
 
 abbrev pub step : Setup → State → Next
-step u s = act_on u (slice_get u.image.code s.at) (counted s)
+step u s = act_on u (slice_get u.image.code s.counter) (counted s)
 
 abbrev pub after : Next → (State → Final) → Final
 after (goes s) k = k s

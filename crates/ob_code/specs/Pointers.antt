@@ -1,61 +1,35 @@
 -- Pointers as words (Ruwase and Lam, NDSS 2004; Jones and Kelly). Null is 0. A pointer into a live object, or one past its
 -- end, is the object's base plus the offset. Any other pointer has a slot, and its word is 2 ^ 40 + 16 * slot. A word that
 -- is none of these names nothing, and is treated as null.
-use Rattle.std.specs.Prelude.{ℕ, ◌+◌, ◌-◌, ◌*◌, ◌/◌, ◌%◌, ◌^◌, Bool, true, false, ◌==◌, ◌&&◌, ◌||◌, not, nat_le, nat_lt, ℤ, pos, ◌+ℤ◌, ◌-ℤ◌, int_lt, int_div, unsigned_abs, List, [], ◌∷◌, ◌++◌, length, Option, Some, None, is_some, is_none, slice_get, slice_set, if◌then◌else◌}
-use Rattle.std.specs.List.{position, count_by}
-use Rattle.std.specs.Ordering.{int_eq}
+use Rattle.std.specs.Prelude.{ℕ, ◌+◌, ◌-◌, Bool, true, false, ◌==◌, ◌&&◌, ◌||◌, not, nat_lt, ℤ, pos, ◌+ℤ◌, ◌-ℤ◌, int_lt, int_div, unsigned_abs, List, Option, Some, None, if◌then◌else◌}
 use Rattle.ob_words.specs.declared.types.Relation.{Relation}
 use Rattle.ob_words.specs.declared.types.Relation.TheVariants.{Lt, Gt, Le, Ge, Eq, Ne}
 use Rattle.ob_model.specs.declared.objects.Entry.{Entry}
 use Rattle.ob_model.specs.Accesses.{is_inside, is_far}
+use Rattle.ob_model.specs.Descriptors.{Pair, slot_of, pair_count, word_of, named_pair, free_slot, with_pair}
 use Rattle.ob_model.specs.Entries.{entry_at, of_object}
-use Rattle.ob_code.specs.State.{Space, Away}
+use Rattle.ob_code.specs.State.{Space}
 
 -- what a word names
 pub data Target : Type 0 where
   nothing : Target
   into : (e : Entry) (offset : ℤ) → Target
 
--- the slot of a word, if it is in use
-abbrev pub slot_word : ℕ → ℕ
-slot_word k = 2 ^ 40 + 16 * k
-
-abbrev pub used : Option (Option Away) → Option Away
-used None = None
-used (Some slot) = slot
-
-abbrev pub slot_named : List (Option Away) → ℕ → Option Away
-slot_named slots w =
-    if nat_le (2 ^ 40) w && (w - 2 ^ 40) % 16 == 0 then used (slice_get slots ((w - 2 ^ 40) / 16)) else None
-
 -- the object of a slot, and then of an address
 abbrev pub found : Option Entry → ℤ → Target
 found None offset = nothing
 found (Some e) offset = into e offset
 
-abbrev pub by_slot : Option Away → List Entry → Target
+abbrev pub by_slot : Option Pair → List Entry → Target
 by_slot None entries = nothing
-by_slot (Some p) entries = found (of_object p.object entries) p.offset
+by_slot (Some pair) entries = found (of_object pair.0 entries) pair.1
 
 abbrev pub by_address : Option Entry → ℕ → Target → Target
 by_address None w other = other
 by_address (Some e) w other = into e (pos (w - e.base))
 
 abbrev pub resolve : Space → ℕ → Target
-resolve s w = by_address (entry_at w s.entries) w (by_slot (slot_named s.slots w) s.entries)
-
--- whether a slot holds a pair; the first slot that does, and the least free one, which may be past the last
-abbrev pub holds_pair : ℕ → ℤ → Option Away → Bool
-holds_pair object offset None = false
-holds_pair object offset (Some p) = (p.object == object) && int_eq p.offset offset
-
-abbrev pub put_slot : Option ℕ → Away → List (Option Away) → List (Option Away)
-put_slot None p slots = slots ++ Some p ∷ []
-put_slot (Some k) p slots = slice_set slots k (Some p)
-
-abbrev pub free_slot : Option ℕ → List (Option Away) → ℕ
-free_slot None slots = length slots
-free_slot (Some k) slots = k
+resolve s w = by_address (entry_at w s.entries) w (by_slot (named_pair s.slots w) s.entries)
 
 -- what moving a pointer gives: a word, and the space with its slot; or that an offset lies too far out, or that no slot may
 -- be taken
@@ -64,21 +38,18 @@ pub data Shifted : Type 0 where
   too_far : Shifted
   no_slot : Shifted
 
-abbrev pub new_slot : ℕ → Away → Space → Shifted
-new_slot away p s =
-    if nat_lt (count_by is_some s.slots) away
-    then shifted (slot_word (free_slot (position is_none s.slots) s.slots)) (record s { slots = put_slot (position is_none s.slots) p s.slots })
-    else no_slot
+abbrev pub new_slot : ℕ → Pair → Space → Shifted
+new_slot away pair s =
+    if nat_lt (pair_count s.slots) away then shifted (word_of (free_slot s.slots)) (record s { slots = with_pair pair s.slots }) else no_slot
 
-abbrev pub slot_for : Option ℕ → ℕ → Away → Space → Shifted
-slot_for (Some k) away p s = shifted (slot_word k) s
-slot_for None away p s = new_slot away p s
+abbrev pub slot_for : Option ℕ → ℕ → Pair → Space → Shifted
+slot_for (Some k) away pair s = shifted (word_of k) s
+slot_for None away pair s = new_slot away pair s
 
 -- a pointer into an object at an offset, which is in bounds from 0 to the size
 abbrev pub pointer_word : Bool → ℕ → Entry → ℤ → Space → Shifted
 pointer_word true away e offset s = shifted (e.base + unsigned_abs offset) s
-pointer_word false away e offset s =
-    slot_for (position (holds_pair e.object offset) s.slots) away (record { object = e.object; offset = offset }) s
+pointer_word false away e offset s = slot_for (slot_of s.slots (e.object, offset)) away (e.object, offset) s
 
 abbrev pub moved_in : ℕ → Entry → ℤ → Space → Shifted
 moved_in away e offset s = if is_far offset then too_far else pointer_word (is_inside e.size offset 0) away e offset s

@@ -1,20 +1,17 @@
 -- The rules of an image, row by row, rows counted from 0. An image that keeps them all can be run: its objects lie apart, its
--- frames have room for what their functions use, and no run leaves the code.
+-- frames have words and bytes for what their functions use, and no run leaves the code.
 use Rattle.std.specs.Prelude.{◌≡◌, ◌≢◌, ℕ, ◌+◌, ◌-◌, ◌%◌, ◌^◌, ◌≤◌, ◌<◌, ◌⊎◌, ℤ, pos, negsuc, unsigned_abs, List, [], length, take, slice_get, slice_index, slice_index_or, Option, Some, None}
 use Rattle.ob_words.specs.declared.types.Relation.{Relation}
 use Rattle.ob_words.specs.declared.types.Relation.TheVariants.{Lt, Gt, Le, Ge, Eq, Ne}
-use Rattle.ob_code.specs.declared.faults.BadImage.{BadImage}
 use Rattle.ob_code.specs.declared.image.FunctionRow.{FunctionRow}
 use Rattle.ob_code.specs.declared.image.Image.{Image}
 use Rattle.ob_code.specs.declared.image.LocalRow.{LocalRow}
-use Rattle.ob_code.specs.declared.faults.Part.{Part}
-use Rattle.ob_code.specs.declared.faults.Part.TheVariants as part
 use Rattle.ob_code.specs.declared.image.PointerRow.{PointerRow}
 use Rattle.ob_code.specs.declared.image.StaticRow.{StaticRow}
 use Rattle.ob_code.specs.declared.instructions.Instr.{Instr}
 use Rattle.ob_code.specs.declared.instructions.Instr.TheVariants.{Tick, Set, Move, Convert, Binary, Compare, Jump, JumpZero, JumpNonzero, Call, Return, Static, Local, Wipe, Load, Store, Slide, SlideBy, Shift, Same, Order, Difference, GetChar, PutChar, Malloc, Calloc, Free, Exit}
 use Rattle.ob_code.specs.Frames.{function_at, words_end, local_end, frame_length}
-use Rattle.ob_code.specs.Machine.{blocks_of, no_local}
+use Rattle.ob_code.specs.Layout.{static_blocks, no_local}
 
 -- ---- static objects
 
@@ -24,14 +21,12 @@ no_static = record { size = 0; given = [] }
 abbrev pub static_at : List StaticRow → ℕ → StaticRow
 static_at rows i = slice_index_or rows i no_static
 
--- a static object has a size and first bytes within it, of which the last isn't 0, and the blocks up to it have room
+-- a static object has a size and first bytes within it, of which the last isn't 0, and the blocks up to it fit
 pub record IsStaticSound (rows : List StaticRow) (i : ℕ) : Type 0 where
   pub size : (static_at rows i).size ≤ 4194304
   pub given : length (static_at rows i).given ≤ (static_at rows i).size
   pub last : 0 < length (static_at rows i).given → slice_index (static_at rows i).given (length (static_at rows i).given - 1) ≢ 0
-  pub room : blocks_of (take (i + 1) rows) ≤ 4194304
-  -- static objects are not run yet
-  pub built : ⊥
+  pub fits : static_blocks (take (i + 1) rows) ≤ 4194304
 
 -- ---- pointers that static objects hold
 
@@ -49,13 +44,21 @@ HasStatic statics object = (1 ≤ object) × (object ≤ length statics)
 abbrev pub IsBefore : PointerRow → PointerRow → Type 0
 IsBefore p q = (p.holder < q.holder) ⊎ ((p.holder ≡ q.holder) × (p.offset < q.offset))
 
+-- the pointer's granule lies in its holder, whose bytes there are 0 or not given
+pub record IsHolderSound (statics : List StaticRow) (p : PointerRow) : Type 0 where
+  pub exists : HasStatic statics p.holder
+  pub multiple : p.offset % 8 ≡ 0
+  pub inside : p.offset + 8 ≤ (static_at statics (p.holder - 1)).size
+  pub bytes : (k : ℕ) → k < 8 → slice_index (static_at statics (p.holder - 1)).given (p.offset + k) ≡ 0
+
+-- it points into its target, or one past its end
+pub record IsTargetSound (statics : List StaticRow) (p : PointerRow) : Type 0 where
+  pub exists : HasStatic statics p.target
+  pub inside : p.target_offset ≤ (static_at statics (p.target - 1)).size
+
 pub record IsPointerSound (statics : List StaticRow) (rows : List PointerRow) (i : ℕ) : Type 0 where
-  pub holder : HasStatic statics (pointer_at rows i).holder
-  pub target : HasStatic statics (pointer_at rows i).target
-  pub multiple : (pointer_at rows i).offset % 8 ≡ 0
-  pub inside : (pointer_at rows i).offset + 8 ≤ (static_at statics ((pointer_at rows i).holder - 1)).size
-  pub target_inside : (pointer_at rows i).target_offset ≤ (static_at statics ((pointer_at rows i).target - 1)).size
-  pub bytes : (k : ℕ) → k < 8 → slice_index (static_at statics ((pointer_at rows i).holder - 1)).given ((pointer_at rows i).offset + k) ≡ 0
+  pub holder : IsHolderSound statics (pointer_at rows i)
+  pub target : IsTargetSound statics (pointer_at rows i)
   pub order : 0 < i → IsBefore (pointer_at rows (i - 1)) (pointer_at rows i)
 
 -- ---- functions
@@ -84,21 +87,19 @@ pub record IsFrameSound (f : FunctionRow) : Type 0 where
 
 -- the first entry is 0, entries increase, and each is a place of the code
 pub record IsEntrySound (image : Image) (i : ℕ) : Type 0 where
-  pub first : i ≡ 0 → (function_at image i).entry ≡ 0
-  pub order : 0 < i → (function_at image (i - 1)).entry < (function_at image i).entry
-  pub in_code : (function_at image i).entry < length image.code
+  pub first : i ≡ 0 → (function_at image.functions i).entry ≡ 0
+  pub order : 0 < i → (function_at image.functions (i - 1)).entry < (function_at image.functions i).entry
+  pub in_code : (function_at image.functions i).entry < length image.code
 
 pub record IsFunctionSound (image : Image) (i : ℕ) : Type 0 where
   pub entry : IsEntrySound image i
-  pub frame : IsFrameSound (function_at image i)
-  -- local objects are not run yet
-  pub built : (function_at image i).locals ≡ []
+  pub frame : IsFrameSound (function_at image.functions i)
 
 -- ---- main
 
 pub record IsMainSound (image : Image) : Type 0 where
   pub exists : image.main < length image.functions
-  pub no_params : (function_at image image.main).params ≡ 0
+  pub no_params : (function_at image.functions image.main).params ≡ 0
 
 -- ---- code
 
@@ -112,7 +113,7 @@ code_end image f = entry_or (slice_get image.functions (f + 1)) (length image.co
 
 pub record IsCodeOf (image : Image) (f i : ℕ) : Type 0 where
   pub is_function : f < length image.functions
-  pub after_entry : (function_at image f).entry ≤ i
+  pub after_entry : (function_at image.functions f).entry ≤ i
   pub before_end : i < code_end image f
 
 -- words that are written and read, places that are jumped to, numbers in a range
@@ -128,7 +129,7 @@ IsBelow count (pos n) = n < count
 IsBelow count (negsuc n) = ⊥
 
 abbrev pub IsPlaceOf : Image → ℕ → ℤ → Type 0
-IsPlaceOf image f (pos n) = ((function_at image f).entry ≤ n) × (n < code_end image f)
+IsPlaceOf image f (pos n) = ((function_at image.functions f).entry ≤ n) × (n < code_end image f)
 IsPlaceOf image f (negsuc n) = ⊥
 
 -- pointers are ordered by < > <= >=
@@ -142,7 +143,7 @@ IsOrdering Ne = ⊥
 
 -- the operands of an instruction of function f
 abbrev pub words_of : Image → ℕ → ℕ
-words_of image f = (function_at image f).words
+words_of image f = (function_at image.functions f).words
 
 abbrev pub AreOperandsSound : Image → ℕ → Instr → Type 0
 AreOperandsSound image f Tick = Unit {0}
@@ -158,12 +159,12 @@ AreOperandsSound image f (JumpZero b imm) = (b < words_of image f) × IsPlaceOf 
 AreOperandsSound image f (JumpNonzero b imm) = (b < words_of image f) × IsPlaceOf image f imm
 AreOperandsSound image f (Call a b imm) =
     IsWritten (words_of image f) a × (b < words_of image f) × IsBelow (length image.functions) imm
-    × (b + (function_at image (unsigned_abs imm)).params ≤ words_of image f)
+    × (b + (function_at image.functions (unsigned_abs imm)).params ≤ words_of image f)
 AreOperandsSound image f (Return b) = b < words_of image f
 AreOperandsSound image f (Static a imm) = IsWritten (words_of image f) a × IsBetween 1 (length image.statics) imm
 AreOperandsSound image f (Local a imm) =
-    IsWritten (words_of image f) a × IsBelow (length (function_at image f).locals) imm
-AreOperandsSound image f (Wipe imm) = IsBelow (length (function_at image f).locals) imm
+    IsWritten (words_of image f) a × IsBelow (length (function_at image.functions f).locals) imm
+AreOperandsSound image f (Wipe imm) = IsBelow (length (function_at image.functions f).locals) imm
 AreOperandsSound image f (Load kind line a b c) =
     IsWritten (words_of image f) a × (b < words_of image f) × (c < words_of image f)
 AreOperandsSound image f (Store kind line a b c) =
@@ -195,22 +196,6 @@ IsLast (Return b) = Unit {0}
 IsLast (Exit b) = Unit {0}
 IsLast _ = ⊥
 
--- instructions on objects are not run yet
-abbrev pub IsBuilt : Instr → Type 0
-IsBuilt (Static a imm) = ⊥
-IsBuilt (Local a imm) = ⊥
-IsBuilt (Wipe imm) = ⊥
-IsBuilt (Load kind line a b c) = ⊥
-IsBuilt (Store kind line a b c) = ⊥
-IsBuilt (Shift a b c) = ⊥
-IsBuilt (Same a b c) = ⊥
-IsBuilt (Order relation a b c) = ⊥
-IsBuilt (Difference a b c imm) = ⊥
-IsBuilt (Malloc a b) = ⊥
-IsBuilt (Calloc a b c) = ⊥
-IsBuilt (Free line b) = ⊥
-IsBuilt _ = Unit {0}
-
 abbrev pub instruction_at : Image → ℕ → Instr
 instruction_at image i = slice_index_or image.code i Tick
 
@@ -218,7 +203,6 @@ instruction_at image i = slice_index_or image.code i Tick
 pub record IsInstructionSound (image : Image) (f i : ℕ) : Type 0 where
   pub operands : AreOperandsSound image f (instruction_at image i)
   pub last : i + 1 ≡ code_end image f → IsLast (instruction_at image i)
-  pub built : IsBuilt (instruction_at image i)
 
 abbrev pub IsCodeSound : Image → ℕ → Type 0
 IsCodeSound image i = (f : ℕ) → IsCodeOf image f i → IsInstructionSound image f i
@@ -249,46 +233,3 @@ pub record IsVerified (image : Image) : Type 0 where
   pub functions : AreFunctionsSound image
   pub main : IsMainSound image
   pub code : IsAllCodeSound image
-
--- ---- the first fault
-
--- a part is at fault at the limit's number where it has more rows, and else at the first row that isn't sound
-pub data IsFaultAt (limit count : ℕ) (Rule : ℕ → Type 0) (at : ℕ) : Type 0 where
-  too_many : (more : limit < count) (is_limit : at ≡ limit) → IsFaultAt limit count Rule at
-  broken : (most : count ≤ limit) (row : at < count) (unsound : ¬ Rule at) (before : (i : ℕ) → i < at → Rule i) → IsFaultAt limit count Rule at
-
--- what the test of a part answers
-abbrev pub IsPartAnswer : ℕ → ℕ → (ℕ → Type 0) → Option ℕ → Type 0
-IsPartAnswer limit count Rule None = AreSound limit count Rule
-IsPartAnswer limit count Rule (Some at) = IsFaultAt limit count Rule at
-
-abbrev pub IsStaticFault : Image → ℕ → Type 0
-IsStaticFault image at = IsFaultAt 262144 (length image.statics) (IsStaticSound image.statics) at
-
-abbrev pub IsPointerFault : Image → ℕ → Type 0
-IsPointerFault image at = IsFaultAt 524288 (length image.pointers) (IsPointerSound image.statics image.pointers) at
-
--- an image without a function is at fault at row 0
-abbrev pub IsFunctionFault : Image → ℕ → Type 0
-IsFunctionFault image at =
-    ((length image.functions ≡ 0) × (at ≡ 0)) ⊎ IsFaultAt 65536 (length image.functions) (IsFunctionSound image) at
-
-abbrev pub IsMainFault : Image → ℕ → Type 0
-IsMainFault image at = (at ≡ 0) × ¬ IsMainSound image
-
-abbrev pub IsCodeFault : Image → ℕ → Type 0
-IsCodeFault image at = IsFaultAt 1048576 (length image.code) (IsCodeSound image) at
-
--- the parts before are sound, and this one is at fault at this row
-abbrev pub IsFaultIn : Part → Image → ℕ → Type 0
-IsFaultIn part.Bytes image at = ⊥
-IsFaultIn part.Static image at = IsStaticFault image at
-IsFaultIn part.Pointer image at = AreStaticsSound image × IsPointerFault image at
-IsFaultIn part.Function image at = AreStaticsSound image × ArePointersSound image × IsFunctionFault image at
-IsFaultIn part.Main image at =
-    AreStaticsSound image × ArePointersSound image × AreFunctionsSound image × IsMainFault image at
-IsFaultIn part.Code image at =
-    AreStaticsSound image × ArePointersSound image × AreFunctionsSound image × IsMainSound image × IsCodeFault image at
-
-abbrev pub IsFirstFault : Image → BadImage → Type 0
-IsFirstFault image bad = IsFaultIn bad.part image bad.at

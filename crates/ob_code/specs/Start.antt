@@ -6,17 +6,18 @@ use Rattle.ob_model.specs.declared.objects.Sort.TheVariants.{Static}
 use Rattle.ob_model.specs.declared.settings.RunSettings.{RunSettings}
 use Rattle.ob_model.specs.Endings.{InputEnd, Outcome, plain}
 use Rattle.ob_model.specs.Entries.{with_entry}
-use Rattle.ob_flat.specs.Memory.{Memory, spot, with_field, with_mark, zeroed}
+use Rattle.ob_flat.specs.Memory.{Memory, index, with_field, with_mark, zeroed}
 use Rattle.ob_code.specs.declared.image.Image.{Image}
 use Rattle.ob_code.specs.declared.image.PointerRow.{PointerRow}
 use Rattle.ob_code.specs.declared.image.StaticRow.{StaticRow}
-use Rattle.ob_code.specs.Machine.{after, blocks_of, entering, runs, static_base, ticked}
+use Rattle.ob_code.specs.Layout.{static_base, static_blocks}
+use Rattle.ob_code.specs.Machine.{after, entering, runs, ticked}
 use Rattle.ob_code.specs.State.{Setup, Space, State, Next, Final}
 
 -- bytes put at an address
 abbrev pub with_bytes : Memory → ℕ → List ℕ → Memory
 with_bytes m address bs =
-    record m { bytes = take (spot m address) m.bytes ++ (bs ++ drop (spot m address + length bs) m.bytes) }
+    record m { bytes = take (index m address) m.bytes ++ (bs ++ drop (index m address + length bs) m.bytes) }
 
 -- the static objects from a base and a number on
 abbrev pub with_statics : ℕ → ℕ → List StaticRow → Space → Space
@@ -43,22 +44,22 @@ abbrev pub empty_space : Memory → ℕ → Space
 empty_space m next =
     record { memory = m; entries = []; slots = []; blocks = []; outside = []; calls = []; next = next }
 
-abbrev pub with_static_pointers : Image → Space → Space
-with_static_pointers image s = record s { memory = with_pointers image.statics image.pointers s.memory }
+abbrev pub with_static_pointers : List StaticRow → List PointerRow → Space → Space
+with_static_pointers statics pointers s = record s { memory = with_pointers statics pointers s.memory }
 
-abbrev pub laid_out : ℕ → Image → RunSettings → Space
-laid_out stack image settings =
-    with_static_pointers image
-    (with_statics 4096 1 image.statics (empty_space (zeroed (blocks_of image.statics) stack settings.heap) (length image.statics + 1)))
+abbrev pub laid_out : ℕ → List StaticRow → List PointerRow → RunSettings → Space
+laid_out stack statics pointers settings =
+    with_static_pointers statics pointers
+    (with_statics 4096 1 statics (empty_space (zeroed (static_blocks statics) stack settings.heap) (length statics + 1)))
 
 -- the state before anything is done
 abbrev pub fresh : Space → ℕ → List ℕ → ℕ → State
 fresh space place input steps =
-    record { space = space; at = 0; left = steps; input = input; output = []; events = []; place = place; count = 0 }
+    record { space = space; counter = 0; steps = steps; input = input; output = []; events = []; cycle_place = place; instructions = 0 }
 
 -- the run starts by calling `main`, which takes its step and its room on the stack; its return place is the code's length
 abbrev pub started : Image → State → Next
-started image s = ticked s.left s (λ t. entering image image.main (length image.code) [] t)
+started image s = ticked s.steps s (λ t. entering image image.main (length image.code) [] t)
 
 -- a run does so many instructions at most
 abbrev pub most_instructions : Image → ℕ → ℕ
@@ -76,12 +77,12 @@ stack_bytes = 1048576
 abbrev pub flat_final : Image → RunSettings → List ℕ → ℕ → List ℕ → InputEnd → ℕ → Final
 flat_final image settings cycle place input input_end steps =
     run_from (record { image = image; settings = settings; cycle = cycle; input_end = input_end })
-    (laid_out stack_bytes image settings) place input steps
+    (laid_out stack_bytes image.statics image.pointers settings) place input steps
 
 -- what the run gives, the state at which it ended, and how many instructions it did
 abbrev pub outcome_of : Final → Outcome
 outcome_of f =
-    record { finish = plain f.ending; output = f.state.output; events = f.state.events; place = f.state.place }
+    record { finish = plain f.ending; output = f.state.output; events = f.state.events; cycle_place = f.state.cycle_place }
 
 abbrev pub flat_run : Image → RunSettings → List ℕ → ℕ → List ℕ → InputEnd → ℕ → Outcome
 flat_run image settings cycle place input input_end steps =
@@ -93,4 +94,4 @@ flat_end image settings cycle place input input_end steps =
 
 abbrev pub flat_instructions : Image → RunSettings → List ℕ → ℕ → List ℕ → InputEnd → ℕ → ℕ
 flat_instructions image settings cycle place input input_end steps =
-    (flat_end image settings cycle place input input_end steps).count
+    (flat_end image settings cycle place input input_end steps).instructions

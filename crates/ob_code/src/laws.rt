@@ -1,4 +1,4 @@
-ghost use Rattle.ob_code.specs.Laws.{HelloIsWritten, ReturnPlaceIsCodeLength, EndlessIsSpent, TicksTakeSteps, JumpsGoByZero, ArgumentsAndResultArrive, CallReturnsAfterItself, StackHoldsTwoHalves, CharIsSigned, DivisionByZeroEnds, DisplacementsAreExact, InputEnds, FarPointerHasSlot, PointerComesBack, NullIsFirst, StaticsHoldPointers, HeapStartsAtItsPlace, FreedPlaceIsReused, ArrayHasItsProduct, OtherFreesAreTold, LocalIsStoredAndWiped, StoreVanishesOrIsKept, RunsAreBounded};
+ghost use Rattle.ob_code.specs.Laws.{HelloIsWritten, ReturnPlaceIsCodeLength, EndlessIsSpent, TicksTakeSteps, JumpsGoByZero, ArgumentsAndResultArrive, CallReturnsAfterItself, StackHoldsTwoHalves, CharIsSigned, DivisionByZeroEnds, DisplacementsAreExact, InputEnds, FarPointerHasSlot, PointerComesBack, NullIsFirst, StaticsHoldPointers, HeapStartsAtItsPlace, FreedPlaceIsReused, ArrayHasItsProduct, OtherFreesAreTold, LocalIsStoredAndWiped, StoreVanishesOrIsKept, LeastRecentlyUsedLeaves, VanishesInBothModes, PointerIsStoredWhole, FreedSlotIsReused, DeadGranulesAreForgotten, RunsAreBounded, SpentRunsAreExact};
 
 /// Runs of the machine's definition on small images: steps, jumps, calls and returns.
 pub fn law_control_runs()
@@ -38,7 +38,19 @@ pub fn law_object_runs()
     ensures strays { StoreVanishesOrIsKept }
 {}
 
-/// Every run of every image does at most `(instructions in the code + 1) * (steps + 1)` instructions.
+/// Runs on small images: which granules the bounded list keeps, accesses that always vanish, pointers in
+/// memory, and what is forgotten when an object dies.
+pub fn law_stray_runs()
+    ensures recency { LeastRecentlyUsedLeaves }
+    ensures vanishing { VanishesInBothModes }
+    ensures pointers { PointerIsStoredWhole }
+    ensures slots { FreedSlotIsReused }
+    ensures granules { DeadGranulesAreForgotten }
+{}
+
+/// Every run of every image does at most `(instructions in the code + 1) * (steps + 1)` instructions, and
+/// exactly so many where it ends with Spent.
 pub fn law_runs_are_bounded()
-    ensures { RunsAreBounded }
+    ensures most { RunsAreBounded }
+    ensures spent { SpentRunsAreExact }
 {}

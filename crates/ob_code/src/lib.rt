@@ -9,8 +9,10 @@ pub use image::{FunctionRow, Image, LocalRow, PointerRow, StaticRow};
 pub use instructions::Instr;
 pub use laws::{
     law_control_runs, law_number_runs, law_object_runs, law_pointer_runs, law_runs_are_bounded,
+    law_stray_runs,
 };
 pub use rows::Rows;
+pub use rules::functions::frame_length;
 pub use verified::{Verified, verify};
 
 mod faults;

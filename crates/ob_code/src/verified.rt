@@ -5,7 +5,8 @@ use crate::image::Image;
 use crate::rules::code::code_fault;
 use crate::rules::functions::function_fault;
 use crate::rules::main_function::main_is_sound;
-use crate::rules::objects::{pointer_fault, static_fault};
+use crate::rules::pointers::pointer_fault;
+use crate::rules::statics::static_fault;
 use std::marker::Model;
 
 /// An image that keeps every rule of the machine.
@@ -19,32 +20,34 @@ impl Model for Verified {
 
     ghost Value = { Image };
 
-    ghost use Rattle.ob_code.specs.Rules.{IsVerified};
+    ghost use Rattle.ob_code.specs.FirstFault.{IsRunnable};
 
     ghost view = { λ v. v.image };
 
-    ghost invariant = { λ v. IsVerified v.image };
+    ghost invariant = { λ v. IsRunnable v.image };
 }
 
 impl Verified {
     ghost use Rattle.ob_code.specs.Rules.{IsVerified};
+    ghost use Rattle.ob_code.specs.Unbuilt.{IsBuilt};
 
     /// The image, which keeps every rule.
     pub fn image(&self) -> &Image
         ensures value { result.now ≡ self.now }
         ensures rules { IsVerified self.now }
+        ensures built { IsBuilt self.now }
     {
         &self.image
     }
 }
 
-ghost use Rattle.ob_code.specs.Rules.{IsVerified, IsFirstFault};
+ghost use Rattle.ob_code.specs.FirstFault.{IsRunnable, IsFirstFault};
 
 /// Tests an image, part by part and row by row. Refused exactly where a rule is broken, at the first part
 /// and row that breaks one. Static objects, local objects and the instructions on objects and pointers are
 /// refused as well, since the machine doesn't run them yet. Takes no memory.
 pub fn verify(image: Image) -> Result<Verified, BadImage>
-    ensures { MatchResult result (λ v. (v ≡ image) × IsVerified image) (IsFirstFault image) }
+    ensures { MatchResult result (λ v. (v ≡ image) × IsRunnable image) (IsFirstFault image) }
 {
     match first_fault(&image) {
         None => Ok(Verified { image }),
@@ -53,7 +56,7 @@ pub fn verify(image: Image) -> Result<Verified, BadImage>
 }
 
 fn first_fault(image: &Image) -> Option<BadImage>
-    ensures { MatchOption result (IsVerified image.now) (IsFirstFault image.now) }
+    ensures { MatchOption result (IsRunnable image.now) (IsFirstFault image.now) }
 {
     if let Some(at) = static_fault(image) {
         return Some(BadImage {

@@ -1,3 +1,4 @@
+pub mod Views
 pub mod Begun
 pub mod Heights
 pub mod Within

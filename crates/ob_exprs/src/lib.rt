@@ -5,6 +5,8 @@
 pub use level::Level;
 
 mod level;
+mod lists;
 mod nodes;
+mod operators;
 mod state;
 mod whole;

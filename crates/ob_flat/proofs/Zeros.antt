@@ -3,8 +3,8 @@ use Rattle.std.proofs.Common.{◌≡◌, ℕ, zero, suc, ◌+◌, ◌-◌, ◌/�
 use Rattle.std.specs.Prelude.{slice_range}
 use Rattle.std.proofs.lemmas.List.{length-take-le, length-take, length-drop, length-append, length-replicate, get_or-replicate, get_or-drop, get_or-take, get_or_append_left, get_or-append-add, ext_get_or}
 use Rattle.ob_words.specs.Fields.{from_bytes}
-use Rattle.ob_flat.specs.Memory.{Memory, IsIn, IsLaidOut, spot, filled, field, has_mark, with_zeros}
-use Rattle.ob_flat.proofs.Spots.{spot_from, spot_end, spot_multiple, spot_order}
+use Rattle.ob_flat.specs.Memory.{Memory, IsIn, IsLaidOut, index, filled, field, has_mark, with_zeros}
+use Rattle.ob_flat.proofs.Indexes.{index_from, index_end, index_multiple, index_order}
 
 get_at : {A : Type 0} (xs ys : List A) (n k : ℕ) (d : A) → length xs ≡ n → get_or (xs ++ ys) (n + k) d ≡ get_or ys k d
 get_at xs ys n k d e = subst (λ i. get_or (xs ++ ys) (i + k) d ≡ get_or ys k d) e (get_or-append-add xs ys k d)
@@ -73,16 +73,16 @@ inside_filled xs s n i x d fits low high =
 
 pub zeros_are_read : (m : Memory) (address n other size : ℕ) → IsLaidOut m → IsIn m address n → address ≤ other → other + size ≤ address + n → field (with_zeros m address n) other size ≡ 0
 zeros_are_read m address n other size l h low high =
-    let end = spot_end m address n l h in
-    let start : spot m other ≡ spot m address + (other - address) = spot_from m address n other l h low (omega arith) in
-    let long = length-filled m.bytes (spot m address) n 0 end in
-    ap from_bytes (range_zeros (filled m.bytes (spot m address) n 0) (spot m other) size (omega (arith, end, start, long))
-    (λ i b. inside_filled m.bytes (spot m address) n (spot m other + i) 0 0 end (omega (arith, start)) (omega (arith, start))))
+    let end = index_end m address n l h in
+    let start : index m other ≡ index m address + (other - address) = index_from m address n other l h low (omega arith) in
+    let long = length-filled m.bytes (index m address) n 0 end in
+    ap from_bytes (range_zeros (filled m.bytes (index m address) n 0) (index m other) size (omega (arith, end, start, long))
+    (λ i b. inside_filled m.bytes (index m address) n (index m other + i) 0 0 end (omega (arith, start)) (omega (arith, start))))
     ∙ from_zeros size
 
-between : (m : Memory) (address n other size : ℕ) → IsLaidOut m → IsIn m address n → IsIn m other size → (address + n ≤ other) ⊎ (other + size ≤ address) → (spot m address + n ≤ spot m other) ⊎ (spot m other + size ≤ spot m address)
-between m address n other size l h g (inl e) = inl (spot_order m address n other size l h g e)
-between m address n other size l h g (inr e) = inr (spot_order m other size address n l g h e)
+between : (m : Memory) (address n other size : ℕ) → IsLaidOut m → IsIn m address n → IsIn m other size → (address + n ≤ other) ⊎ (other + size ≤ address) → (index m address + n ≤ index m other) ⊎ (index m other + size ≤ index m address)
+between m address n other size l h g (inl e) = inl (index_order m address n other size l h g e)
+between m address n other size l h g (inr e) = inr (index_order m other size address n l g h e)
 
 beyond : (s n t size i : ℕ) → i < size → (s + n ≤ t) ⊎ (t + size ≤ s) → (s + n ≤ t + i) ⊎ (t + i < s)
 beyond s n t size i b (inl e) = inl (omega arith)
@@ -90,22 +90,22 @@ beyond s n t size i b (inr e) = inr (omega arith)
 
 pub others_are_kept : (m : Memory) (address n other size : ℕ) → IsLaidOut m → IsIn m address n → IsIn m other size → (address + n ≤ other) ⊎ (other + size ≤ address) → field (with_zeros m address n) other size ≡ field m other size
 others_are_kept m address n other size l h g apart =
-    let end = spot_end m address n l h in
-    let end_other = spot_end m other size l g in
-    let long = length-filled m.bytes (spot m address) n 0 end in
-    ap from_bytes (range_same (filled m.bytes (spot m address) n 0) m.bytes (spot m other) size (omega (arith, end_other, long)) end_other
-    (λ i b. outside_same m.bytes (spot m address) n (spot m other + i) 0 0 end (beyond (spot m address) n (spot m other) size i b (between m address n other size l h g apart))))
+    let end = index_end m address n l h in
+    let end_other = index_end m other size l g in
+    let long = length-filled m.bytes (index m address) n 0 end in
+    ap from_bytes (range_same (filled m.bytes (index m address) n 0) m.bytes (index m other) size (omega (arith, end_other, long)) end_other
+    (λ i b. outside_same m.bytes (index m address) n (index m other + i) 0 0 end (beyond (index m address) n (index m other) size i b (between m address n other size l h g apart))))
 
 -- ---- marks of granules
 
-marks_end : (m : Memory) (address n : ℕ) → IsLaidOut m → IsIn m address n → address % 8 ≡ 0 → n % 8 ≡ 0 → spot m address / 8 + n / 8 ≤ length m.marks
-marks_end m address n l h e f = omega (arith, spot_end m address n l h, spot_multiple m address n l h e, l.bytes, l.marks)
+marks_end : (m : Memory) (address n : ℕ) → IsLaidOut m → IsIn m address n → address % 8 ≡ 0 → n % 8 ≡ 0 → index m address / 8 + n / 8 ≤ length m.marks
+marks_end m address n l h e f = omega (arith, index_end m address n l h, index_multiple m address n l h e, l.bytes, l.marks)
 
 pub zeros_have_no_mark : (m : Memory) (address n other : ℕ) → IsLaidOut m → IsIn m address n → address % 8 ≡ 0 → n % 8 ≡ 0 → address ≤ other → other + 1 ≤ address + n → has_mark (with_zeros m address n) other ≡ false
 zeros_have_no_mark m address n other l h e f low high =
-    let start : spot m other ≡ spot m address + (other - address) = spot_from m address n other l h low (omega arith) in
-    let even = spot_multiple m address n l h e in
-    inside_filled m.marks (spot m address / 8) (n / 8) (spot m other / 8) false false (marks_end m address n l h e f)
+    let start : index m other ≡ index m address + (other - address) = index_from m address n other l h low (omega arith) in
+    let even = index_multiple m address n l h e in
+    inside_filled m.marks (index m address / 8) (n / 8) (index m other / 8) false false (marks_end m address n l h e f)
     (omega (arith, start, even)) (omega (arith, start, even))
 
 granules_apart : (s n t : ℕ) → s % 8 ≡ 0 → n % 8 ≡ 0 → (s + n ≤ t) ⊎ (t + 1 ≤ s) → (s / 8 + n / 8 ≤ t / 8) ⊎ (t / 8 < s / 8)
@@ -114,5 +114,5 @@ granules_apart s n t e f (inr h) = inr (omega arith)
 
 pub other_marks_are_kept : (m : Memory) (address n other : ℕ) → IsLaidOut m → IsIn m address n → IsIn m other 1 → address % 8 ≡ 0 → n % 8 ≡ 0 → (address + n ≤ other) ⊎ (other + 1 ≤ address) → has_mark (with_zeros m address n) other ≡ has_mark m other
 other_marks_are_kept m address n other l h g e f apart =
-    outside_same m.marks (spot m address / 8) (n / 8) (spot m other / 8) false false (marks_end m address n l h e f)
-    (granules_apart (spot m address) n (spot m other) (spot_multiple m address n l h e) f (between m address n other 1 l h g apart))
+    outside_same m.marks (index m address / 8) (n / 8) (index m other / 8) false false (marks_end m address n l h e f)
+    (granules_apart (index m address) n (index m other) (index_multiple m address n l h e) f (between m address n other 1 l h g apart))

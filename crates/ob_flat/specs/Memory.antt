@@ -11,21 +11,21 @@ pub record Memory : Type 0 where
   pub marks : List Bool
 
 -- the bytes of so many bytes in whole granules
-abbrev pub eights : ℕ → ℕ
-eights n = (n + 7) / 8 * 8
+abbrev pub whole_granules : ℕ → ℕ
+whole_granules n = (n + 7) / 8 * 8
 
-abbrev pub room : ℕ → ℕ → ℕ → ℕ
-room statics stack heap = eights statics + eights stack + eights heap
+abbrev pub capacity : ℕ → ℕ → ℕ → ℕ
+capacity statics stack heap = whole_granules statics + whole_granules stack + whole_granules heap
 
 -- where the byte of an address stands in the list: statics lie from 4096 on, the stack from 2 ^ 24 on, and the heap from
 -- 2 ^ 25 on
-abbrev pub spot_of : ℕ → ℕ → ℕ → ℕ
-spot_of statics stack address =
+abbrev pub index_of : ℕ → ℕ → ℕ → ℕ
+index_of statics stack address =
     if nat_lt address 16777216 then address - 4096
-    else (if nat_lt address 33554432 then eights statics + (address - 16777216) else eights statics + eights stack + (address - 33554432))
+    else (if nat_lt address 33554432 then whole_granules statics + (address - 16777216) else whole_granules statics + whole_granules stack + (address - 33554432))
 
-abbrev pub spot : Memory → ℕ → ℕ
-spot m address = spot_of m.statics m.stack address
+abbrev pub index : Memory → ℕ → ℕ
+index m address = index_of m.statics m.stack address
 
 -- n bytes from an address on lie in the range of so many bytes from start on
 pub record IsWithin (start count address n : ℕ) : Type 0 where
@@ -42,8 +42,8 @@ pub record IsLaidOut (m : Memory) : Type 0 where
   pub statics : m.statics ≤ 4194304
   pub stack : m.stack ≤ 1048576
   pub heap : m.heap ≤ 67108864
-  pub bytes : length m.bytes ≡ room m.statics m.stack m.heap
-  pub marks : length m.marks ≡ room m.statics m.stack m.heap / 8
+  pub bytes : length m.bytes ≡ capacity m.statics m.stack m.heap
+  pub marks : length m.marks ≡ capacity m.statics m.stack m.heap / 8
 
 -- all bytes 0, and no pointer
 abbrev pub zeroed : ℕ → ℕ → ℕ → Memory
@@ -52,23 +52,23 @@ zeroed statics stack heap =
       statics = statics;
       stack = stack;
       heap = heap;
-      bytes = replicate (room statics stack heap) 0;
-      marks = replicate (room statics stack heap / 8) false;
+      bytes = replicate (capacity statics stack heap) 0;
+      marks = replicate (capacity statics stack heap / 8) false;
     }
 
 -- the little-endian field of some bytes from an address on, and the memory with the low bytes of w there
 abbrev pub field : Memory → ℕ → ℕ → ℕ
-field m address size = fields.field_at m.bytes (spot m address) size
+field m address size = fields.field_at m.bytes (index m address) size
 
 abbrev pub with_field : Memory → ℕ → ℕ → ℕ → Memory
-with_field m address size w = record m { bytes = fields.with_field m.bytes (spot m address) size w }
+with_field m address size w = record m { bytes = fields.with_field m.bytes (index m address) size w }
 
 -- whether the granule of an address holds a pointer
 abbrev pub has_mark : Memory → ℕ → Bool
-has_mark m address = slice_index_or m.marks (spot m address / 8) false
+has_mark m address = slice_index_or m.marks (index m address / 8) false
 
 abbrev pub with_mark : Memory → ℕ → Bool → Memory
-with_mark m address pointer = record m { marks = slice_set m.marks (spot m address / 8) pointer }
+with_mark m address pointer = record m { marks = slice_set m.marks (index m address / 8) pointer }
 
 -- a list with n times x from a place on
 abbrev pub filled : {A : Type 0} → List A → ℕ → ℕ → A → List A
@@ -77,4 +77,4 @@ filled xs place n x = take place xs ++ (replicate n x ++ drop (place + n) xs)
 -- zero bytes, and no pointer, in n bytes from an address on; both are multiples of 8
 abbrev pub with_zeros : Memory → ℕ → ℕ → Memory
 with_zeros m address n =
-    record m { bytes = filled m.bytes (spot m address) n 0; marks = filled m.marks (spot m address / 8) (n / 8) false }
+    record m { bytes = filled m.bytes (index m address) n 0; marks = filled m.marks (index m address / 8) (n / 8) false }

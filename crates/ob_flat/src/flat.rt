@@ -1,6 +1,6 @@
 ghost use Rattle.std.specs.Prelude.{◌≡◌, ◌+◌, ◌*◌, ◌/◌, ◌%◌, ◌≤◌, ◌<◌, ◌^◌, IfOk};
 ghost use Rattle.ob_words.specs.Fields.{IsFieldSize};
-ghost use Rattle.ob_flat.specs.Memory.{eights, spot_of, room, field, with_field, has_mark, with_mark, with_zeros, zeroed, IsIn};
+ghost use Rattle.ob_flat.specs.Memory.{whole_granules, index_of, capacity, field, with_field, has_mark, with_mark, with_zeros, zeroed, IsIn};
 
 use ob_base::NoMemory;
 use ob_words::{get_le, put_le};
@@ -43,7 +43,7 @@ impl Flat {
         requires heap { heap ≤ 67108864 }
         ensures { IfOk result (λ f. f ≡ zeroed statics stack heap) }
     {
-        let bytes = eights(statics) + eights(stack) + eights(heap);
+        let bytes = whole_granules(statics) + whole_granules(stack) + whole_granules(heap);
         Ok(Flat {
             statics,
             stack,
@@ -59,7 +59,7 @@ impl Flat {
         requires inside { IsIn self.now address size }
         ensures { result ≡ field self.now address size }
     {
-        let at = spot(self.statics, self.stack, address);
+        let at = index(self.statics, self.stack, address);
         get_le(self.bytes.as_slice(), at, size as usize)
     }
 
@@ -69,7 +69,7 @@ impl Flat {
         requires inside { IsIn self.old address size }
         ensures { self.new ≡ with_field self.old address size w }
     {
-        let at = spot(self.statics, self.stack, address);
+        let at = index(self.statics, self.stack, address);
         put_le(self.bytes.as_mut_slice(), at, size as usize, w);
     }
 
@@ -78,7 +78,7 @@ impl Flat {
         requires { IsIn self.now address 1 }
         ensures { result ≡ has_mark self.now address }
     {
-        self.marks[spot(self.statics, self.stack, address) / 8]
+        self.marks[index(self.statics, self.stack, address) / 8]
     }
 
     /// Says whether the granule of `address` holds a pointer.
@@ -86,7 +86,7 @@ impl Flat {
         requires { IsIn self.old address 1 }
         ensures { self.new ≡ with_mark self.old address pointer }
     {
-        let at = spot(self.statics, self.stack, address);
+        let at = index(self.statics, self.stack, address);
         self.marks[at / 8] = pointer;
     }
 
@@ -98,7 +98,7 @@ impl Flat {
         requires inside { IsIn self.old address length }
         ensures { self.new ≡ with_zeros self.old address length }
     {
-        let from = spot(self.statics, self.stack, address);
+        let from = index(self.statics, self.stack, address);
         let to = from + length as usize;
         self.bytes[from..to].fill(0);
         self.marks[from / 8..to / 8].fill(false);
@@ -114,26 +114,26 @@ impl Flat {
 }
 
 // How many bytes keep so many bytes in whole granules.
-fn eights(bytes: u64) -> usize
+fn whole_granules(bytes: u64) -> usize
     requires { bytes < 2 ^ 32 }
-    ensures { result ≡ eights bytes }
+    ensures { result ≡ whole_granules bytes }
 {
     (bytes as usize + 7) / 8 * 8
 }
 
 // Where the byte of an address stands among all bytes.
-fn spot(statics: u64, stack: u64, address: u64) -> usize
+fn index(statics: u64, stack: u64, address: u64) -> usize
     requires statics { statics < 2 ^ 32 }
     requires stack { stack < 2 ^ 32 }
     requires start { 4096 ≤ address }
     requires address { address < 2 ^ 32 }
-    ensures { result ≡ spot_of statics stack address }
+    ensures { result ≡ index_of statics stack address }
 {
     if address < STACK_START {
         (address - STATICS_START) as usize
     } else if address < HEAP_START {
-        eights(statics) + (address - STACK_START) as usize
+        whole_granules(statics) + (address - STACK_START) as usize
     } else {
-        eights(statics) + eights(stack) + (address - HEAP_START) as usize
+        whole_granules(statics) + whole_granules(stack) + (address - HEAP_START) as usize
     }
 }

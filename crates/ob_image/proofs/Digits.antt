@@ -6,6 +6,7 @@ use Rattle.ob_words.specs.Fields.{low_bytes}
 use Rattle.ob_image.specs.Reading.{chained, one, gives, number, exactly, Fails, Gives}
 use Rattle.ob_image.specs.declared.faults.Stop.{Stop}
 use Rattle.ob_image.specs.declared.faults.Stop.TheVariants as stops
+use Rattle.ob_image.proofs.Readers.{done}
 
 pub byte_is : (n : ℕ) → n < 256 → n ∷ [] ≡ low_bytes 1 n
 unfolding low_bytes
@@ -68,11 +69,11 @@ number_fails (stops.Left left) size limit bytes h long fits fails = number_more 
 
 -- ---- a text
 
-abbrev with_first : ℕ → Result (List ℕ × List ℕ) ℕ → Result (List ℕ × List ℕ) ℕ
+abbrev pub with_first : ℕ → Result (List ℕ × List ℕ) ℕ → Result (List ℕ × List ℕ) ℕ
 with_first first (Ok x) = Ok (first ∷ x.0, x.1)
 with_first first (Err left) = Err left
 
-chained_first : (first : ℕ) (read : Result (List ℕ × List ℕ) ℕ) → chained (λ others. gives (first ∷ others)) read ≡ with_first first read
+pub chained_first : (first : ℕ) (read : Result (List ℕ × List ℕ) ℕ) → chained (λ others. gives (first ∷ others)) read ≡ with_first first read
 unfolding gives
 chained_first first (Ok x) = refl
 chained_first first (Err left) = refl
@@ -100,14 +101,11 @@ first_is : (text : List ℕ) → 1 ≤ length text → get_or text 0 0 ∷ drop 
 first_is [] long = absurd (omega arith)
 first_is (t ∷ text) long = refl
 
-abbrev read_as : List ℕ × List ℕ → Result (List ℕ × List ℕ) ℕ
-read_as x = Ok x
-
 pub exactly_gives : (text bytes : List ℕ) (r : Result (Bor (List ℕ)) Stop) → 1 ≤ length text → 1 ≤ length bytes → get_or bytes 0 0 ≡ get_or text 0 0
     → Gives (λ x. (drop 1 text, x.now)) r (exactly (drop 1 text) (drop 1 bytes)) → Gives (λ x. (text, x.now)) r (exactly text bytes)
 exactly_gives text bytes (Ok x) long some same given =
     exactly_more text bytes long some same ∙ ap (with_first (get_or bytes 0 0)) given
-    ∙ ap (λ (b : ℕ). read_as (b ∷ drop 1 text, x.now)) same ∙ ap (λ (t : List ℕ). read_as (t, x.now)) (first_is text long)
+    ∙ ap (λ (b : ℕ). done (b ∷ drop 1 text, x.now)) same ∙ ap (λ (t : List ℕ). done (t, x.now)) (first_is text long)
 exactly_gives text bytes (Err stops.Memory) long some same given = tt
 exactly_gives text bytes (Err (stops.Left left)) long some same given = exactly_more text bytes long some same ∙ ap (with_first (get_or bytes 0 0)) given
 

@@ -2,19 +2,8 @@
 use Rattle.std.proofs.Common.{◌≡◌, ℕ, zero, suc, ◌+◌, ◌-◌, ◌<◌, ◌≤◌, List, [], ◌∷◌, ◌++◌, length, get_or, take, drop, Result, Ok, Err, refl, sym, ap, ◌∙◌, arith, eq-eqb}
 use Rattle.std.proofs.lemmas.Bool.{ne_eqb}
 use Rattle.std.proofs.lemmas.List.{take-append-drop, length-take-le}
-use Rattle.ob_image.specs.Reading.{chained, one, gives, given}
-
-abbrev read_as : List ℕ × List ℕ → Result (List ℕ × List ℕ) ℕ
-read_as x = Ok x
-
-abbrev with_first : ℕ → Result (List ℕ × List ℕ) ℕ → Result (List ℕ × List ℕ) ℕ
-with_first first (Ok x) = Ok (first ∷ x.0, x.1)
-with_first first (Err left) = Err left
-
-chained_first : (first : ℕ) (read : Result (List ℕ × List ℕ) ℕ) → chained (λ others. gives (first ∷ others)) read ≡ with_first first read
-unfolding gives
-chained_first first (Ok x) = refl
-chained_first first (Err left) = refl
+use Rattle.ob_image.specs.Reading.{one, gives, given}
+use Rattle.ob_image.proofs.Digits.{with_first, chained_first}
 
 given_more : (n b : ℕ) (bytes : List ℕ) → given (suc (suc n)) (b ∷ bytes) ≡ with_first b (given (suc n) bytes)
 unfolding given one

@@ -1,8 +1,13 @@
 mod Digits
+mod FieldLaws
+mod FormLimits
 mod Forms
 mod Givens
+mod InstructionLaws
+mod KindNumbers
 mod Loops
 mod Readers
 mod RowLaws
 mod Spellings
+mod Verified
 mod Wholes

@@ -4,19 +4,17 @@ use Rattle.std.proofs.lemmas.List.{append-nil}
 use Rattle.ob_image.specs.declared.faults.Stop.{Stop}
 use Rattle.ob_image.specs.declared.faults.Stop.TheVariants as stops
 use Rattle.ob_image.specs.Reading.{Reader, chained, gives, rows, Fails, ◌>>=◌}
+use Rattle.ob_image.proofs.Readers.{done}
 
 -- what was read before, and what is still read
 abbrev pub with_front : {A : Type 0} → List A → Result (List A × List ℕ) ℕ → Result (List A × List ℕ) ℕ
 with_front front (Ok x) = Ok (front ++ x.0, x.1)
 with_front front (Err left) = Err left
 
-abbrev read_as : {A : Type 0} → A × List ℕ → Result (A × List ℕ) ℕ
-read_as x = Ok x
-
 regroup : {A : Type 0} (front : List A) (x : A) (read : Result (List A × List ℕ) ℕ)
     → with_front front (chained (λ others. gives (x ∷ others)) read) ≡ with_front (front ++ x ∷ []) read
 unfolding gives
-regroup front x (Ok y) = ap (λ (xs : List _). read_as (xs, y.1)) (sym (append_assoc front (x ∷ []) y.0))
+regroup front x (Ok y) = ap (λ (xs : List _). done (xs, y.1)) (sym (append_assoc front (x ∷ []) y.0))
 regroup front x (Err left) = refl
 
 one_more : {A : Type 0} (read : Reader A) (n : ℕ) (bytes : List ℕ) (x : A) (after : List ℕ) → read bytes ≡ Ok (x, after)
@@ -49,4 +47,4 @@ pub is_done : {A : Type 0} (read : Reader A) (front : List A) (count i : ℕ) (b
 unfolding rows gives
 is_done read front count i bytes total le so_far =
     let k : count - i ≡ 0 = omega arith in
-    sym so_far ∙ ap (λ (n : ℕ). with_front front (rows read n bytes)) k ∙ ap (λ (xs : List _). read_as (xs, bytes)) (append-nil front)
+    sym so_far ∙ ap (λ (n : ℕ). with_front front (rows read n bytes)) k ∙ ap (λ (xs : List _). done (xs, bytes)) (append-nil front)

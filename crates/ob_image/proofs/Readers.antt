@@ -1,5 +1,5 @@
 -- What each reader keeps, and that readers put together from such readers keep it.
-use Rattle.std.proofs.Common.{◌≡◌, ℕ, zero, suc, ◌+◌, ◌-◌, ◌*◌, ◌/◌, ◌<◌, Bool, true, false, List, [], ◌∷◌, ◌++◌, length, Result, Ok, Err, refl, sym, ap, subst, ◌∙◌, append_assoc, arith, eq-eqb}
+use Rattle.std.proofs.Common.{◌≡◌, ℕ, zero, suc, ◌+◌, ◌-◌, ◌*◌, ◌/◌, ◌<◌, Bool, true, false, List, [], ◌∷◌, ◌++◌, length, Result, Ok, Err, refl, sym, ap, subst, ◌∙◌, append_assoc, arith, eq-eqb, get_or}
 use Rattle.std.specs.List.{AllByRecursion}
 use Rattle.std.proofs.lemmas.Bool.{le-leb}
 use Rattle.std.proofs.lemmas.List.{append-nil}
@@ -19,6 +19,11 @@ IsBytes-behind (x ∷ xs) ys h = IsBytes-behind xs ys h.1
 pub IsBytes-front : (xs ys : List ℕ) → IsBytes (xs ++ ys) → IsBytes xs
 IsBytes-front [] ys h = tt
 IsBytes-front (x ∷ xs) ys h = (h.0, IsBytes-front xs ys h.1)
+
+-- the bytes of a slice
+pub are_bytes : (bytes : List ℕ) → ((i : ℕ) → get_or bytes i 0 < 256) → IsBytes bytes
+are_bytes [] h = tt
+are_bytes (b ∷ bytes) h = (h 0, are_bytes bytes (λ i. h (suc i)))
 
 -- what was read stands in the bytes that were taken, whatever follows them
 pub record Takes {A : Type 0} (read : Reader A) (bytes : List ℕ) (x : A) (rest : List ℕ) : Type 0 where

@@ -2,7 +2,7 @@
 use Rattle.std.proofs.Common.{◌≡◌, ℕ, suc, ◌+◌, ◌-◌, ◌<◌, ◌≤◌, List, [], ◌∷◌, ◌++◌, length, take, drop, Result, Ok, Err, refl, sym, ap, subst, ◌∙◌, append_assoc, arith}
 use Rattle.std.proofs.lemmas.List.{append-nil, take_at, length-append, take-append-drop}
 use Rattle.std.proofs.lemmas.Bool.{cases_lt, ne_eqb}
-use Rattle.std.proofs.Common.{inl, inr, get_or}
+use Rattle.std.proofs.Common.{inl, inr}
 use Rattle.ob_words.specs.Fields.{low_bytes}
 use Rattle.ob_code.specs.declared.image.Image.{Image}
 use Rattle.ob_image.specs.Faults.{Spells, IsBegun, IsFirstWrong, Reads}
@@ -10,7 +10,9 @@ use Rattle.ob_image.specs.Layout.{any_word, spell_instruction, IsInstruction}
 use Rattle.ob_image.specs.Reading.{gives, exactly, counted, static_row, pointer_row, function_row, instruction_row, image_parts, image_of, ended}
 use Rattle.ob_image.specs.Spelling.{head, spell_static, spell_pointer, spell_function, spell_rows, spell_image, AreRows, IsStatic, IsPointer, IsFunction, IsImage}
 use Rattle.ob_image.proofs.Readers.{IsBytes, IsBytes-append, IsBytes-front, IsReader, then_reader, gives_reader, exactly_reader, number_reader, counted_reader, done, ok_is, found, stuck, answered}
-use Rattle.ob_image.proofs.RowLaws.{word_spelled, exactly_spelled, static_reader, static_spelled, pointer_reader, pointer_spelled, function_reader, function_spelled, instruction_reader, instruction_spelled}
+use Rattle.ob_image.proofs.FieldLaws.{word_spelled, exactly_spelled}
+use Rattle.ob_image.proofs.InstructionLaws.{instruction_reader, instruction_spelled}
+use Rattle.ob_image.proofs.RowLaws.{static_reader, static_spelled, pointer_reader, pointer_spelled, function_reader, function_spelled}
 use Rattle.ob_image.proofs.Spellings.{IsSpelled, then_sound, then_again, along, counted_spelled}
 
 abbrev told : Image → Result Image ℕ
@@ -196,17 +198,11 @@ read_wrong bytes left fits e =
       | wrong here is first most ↦ subst (λ (n : ℕ). IsFirstWrong bytes (length bytes - n) × (n ≤ length bytes)) (left_same here left (sym is ∙ e)) (first, most)
     ]
 
--- the bytes of a slice
-pub are_bytes : (bytes : List ℕ) → ((i : ℕ) → get_or bytes i 0 < 256) → IsBytes bytes
-are_bytes [] h = tt
-are_bytes (b ∷ bytes) h = (h 0, are_bytes bytes (λ i. h (suc i)))
-
--- reading what was written
-pub reads_back : (x : Image) (r : Result Image ℕ) → IsImage x → Reads (spell_image x) r → r ≡ Ok x
-reads_back x (Ok y) is reads = ap told (one_image (spell_image x) y x reads (is, refl))
-reads_back x (Err at) is reads =
-    elim (cases_lt at (length (spell_image x))) [
-      | inl lt ↦
-          absurd (reads.wrong lt (x, drop (at + 1) (spell_image x), subst (λ (l : List ℕ). Spells l x) (sym (take-append-drop (at + 1) (spell_image x))) (is, refl)))
-      | inr ge ↦ absurd (reads.proper (omega (arith, reads.within)) x (is, refl))
+-- reading what spells an image
+pub reads_back : (bytes : List ℕ) (x : Image) (r : Result Image ℕ) → Spells bytes x → Reads bytes r → r ≡ Ok x
+reads_back bytes x (Ok y) is reads = ap told (one_image bytes y x reads is)
+reads_back bytes x (Err at) is reads =
+    elim (cases_lt at (length bytes)) [
+      | inl lt ↦ absurd (reads.wrong lt (x, drop (at + 1) bytes, subst (λ (l : List ℕ). Spells l x) (sym (take-append-drop (at + 1) bytes)) is))
+      | inr ge ↦ absurd (reads.proper (omega (arith, reads.within)) x is)
     ]

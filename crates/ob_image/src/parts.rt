@@ -1,12 +1,14 @@
 ghost use Rattle.std.specs.Prelude.{◌≡◌, ◌++◌, OnOk, IfOk};
-ghost use Rattle.ob_image.specs.Layout.{spell_instruction, AreFields};
+ghost use Rattle.ob_image.specs.Layout.{spell_instruction, AreFields, IsInstruction};
 ghost use Rattle.ob_image.specs.Reading.{Gives, static_row, pointer_row, local_row, function_row, fields_row, instruction_row};
-ghost use Rattle.ob_image.specs.Spelling.{spell_static, spell_pointer, spell_local, spell_function};
+ghost use Rattle.ob_image.specs.Rules.{StaticRule, FunctionRule, InstructionRule, NoRule, IsTyped};
+ghost use Rattle.ob_image.specs.Spelling.{spell_static, spell_pointer, spell_local, spell_function, IsStatic, IsPointer, IsLocal, IsFunction};
 
 use crate::faults::Stop;
 use crate::fields::{put_fields, put_long, put_word};
+use crate::fields_of::fields_of;
 use crate::given::given;
-use crate::instructions::{fields_of, instruction};
+use crate::instructions::instruction;
 use crate::layout::{Fields, limits_of};
 use crate::numbers::{byte, long, operation, word, zeros};
 use crate::rows::{Row, counted, put_rows};
@@ -16,11 +18,16 @@ use std::alloc::Global;
 
 impl Row for StaticRow {
     ghost use Rattle.ob_image.specs.Reading.{static_row};
-    ghost use Rattle.ob_image.specs.Spelling.{spell_static};
+    ghost use Rattle.ob_image.specs.Rules.{StaticRule};
+    ghost use Rattle.ob_image.specs.Spelling.{spell_static, IsStatic};
 
     ghost reader = { static_row };
 
     ghost spelling = { spell_static };
+
+    ghost rule = { StaticRule };
+
+    ghost valid = { IsStatic };
 
     #[tactic(auto, unfolding(crate::specs::Reading::static_row, crate::specs::Reading::gives))]
     fn read(alloc: Global, bytes: &[u8]) -> Result<(StaticRow, &[u8]), Stop> {
@@ -42,11 +49,16 @@ impl Row for StaticRow {
 
 impl Row for PointerRow {
     ghost use Rattle.ob_image.specs.Reading.{pointer_row};
-    ghost use Rattle.ob_image.specs.Spelling.{spell_pointer};
+    ghost use Rattle.ob_image.specs.Rules.{NoRule};
+    ghost use Rattle.ob_image.specs.Spelling.{spell_pointer, IsPointer};
 
     ghost reader = { pointer_row };
 
     ghost spelling = { spell_pointer };
+
+    ghost rule = { NoRule };
+
+    ghost valid = { IsPointer };
 
     #[tactic(auto, unfolding(crate::specs::Reading::pointer_row, crate::specs::Reading::gives))]
     fn read(_alloc: Global, bytes: &[u8]) -> Result<(PointerRow, &[u8]), Stop> {
@@ -75,11 +87,16 @@ impl Row for PointerRow {
 
 impl Row for LocalRow {
     ghost use Rattle.ob_image.specs.Reading.{local_row};
-    ghost use Rattle.ob_image.specs.Spelling.{spell_local};
+    ghost use Rattle.ob_image.specs.Rules.{NoRule};
+    ghost use Rattle.ob_image.specs.Spelling.{spell_local, IsLocal};
 
     ghost reader = { local_row };
 
     ghost spelling = { spell_local };
+
+    ghost rule = { NoRule };
+
+    ghost valid = { IsLocal };
 
     #[tactic(auto, unfolding(crate::specs::Reading::local_row, crate::specs::Reading::gives))]
     fn read(_alloc: Global, bytes: &[u8]) -> Result<(LocalRow, &[u8]), Stop> {
@@ -107,11 +124,16 @@ impl Row for LocalRow {
 
 impl Row for FunctionRow {
     ghost use Rattle.ob_image.specs.Reading.{function_row};
-    ghost use Rattle.ob_image.specs.Spelling.{spell_function};
+    ghost use Rattle.ob_image.specs.Rules.{FunctionRule};
+    ghost use Rattle.ob_image.specs.Spelling.{spell_function, IsFunction};
 
     ghost reader = { function_row };
 
     ghost spelling = { spell_function };
+
+    ghost rule = { FunctionRule };
+
+    ghost valid = { IsFunction };
 
     #[tactic(auto, unfolding(crate::specs::Reading::function_row, crate::specs::Reading::gives))]
     fn read(alloc: Global, bytes: &[u8]) -> Result<(FunctionRow, &[u8]), Stop> {
@@ -171,12 +193,17 @@ fn fields(bytes: &[u8]) -> Result<(Fields, &[u8]), Stop>
 }
 
 impl Row for Instr {
-    ghost use Rattle.ob_image.specs.Layout.{spell_instruction, AreFields};
+    ghost use Rattle.ob_image.specs.Layout.{spell_instruction, AreFields, IsInstruction};
     ghost use Rattle.ob_image.specs.Reading.{instruction_row};
+    ghost use Rattle.ob_image.specs.Rules.{InstructionRule};
 
     ghost reader = { instruction_row };
 
     ghost spelling = { spell_instruction };
+
+    ghost rule = { InstructionRule };
+
+    ghost valid = { IsInstruction };
 
     #[tactic(auto, unfolding(crate::specs::Reading::instruction_row, crate::specs::Reading::gives))]
     fn read(_alloc: Global, bytes: &[u8]) -> Result<(Instr, &[u8]), Stop> {

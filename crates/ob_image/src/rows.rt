@@ -1,5 +1,7 @@
 ghost use Rattle.std.specs.Prelude.{◌≡◌, ◌++◌, OnOk, List, ℕ, Result};
+ghost use Rattle.std.specs.List.{AllByRecursion};
 ghost use Rattle.ob_image.specs.Reading.{Gives, rows, counted};
+ghost use Rattle.ob_image.specs.Rules.{IsTyped};
 ghost use Rattle.ob_image.specs.Spelling.{spell_rows};
 
 use crate::faults::Stop;
@@ -16,13 +18,19 @@ pub(crate) trait Row: Drop {
 
     ghost spelling: { Self → List ℕ };
 
+    // What the format asks of a row beyond the types of its fields, and what has a spelling.
+    ghost rule: { Self → Type 0 };
+
+    ghost valid: { Self → Type 0 };
+
     /// The row that begins the bytes, and the bytes after it.
     fn read(alloc: Global, bytes: &[u8]) -> Result<(Self, &[u8]), Stop>
         ensures { Gives (λ x. (x.0, x.1.now)) result (reader bytes.now) };
 
     /// Puts the row's spelling at the end.
     fn put(&self, out: &mut Vec<u8>) -> Result<(), NoMemory>
-        ensures { OnOk result (out.new.items ≡ out.old.items ++ spelling self.now) };
+        ensures text { OnOk result (out.new.items ≡ out.old.items ++ spelling self.now) }
+        ensures typed { OnOk result (IsTyped rule valid self.now) };
 }
 
 /// So many rows, and the bytes after them. Memory is taken row by row, as they are found.
@@ -55,7 +63,8 @@ pub(crate) fn counted<T: Row>(
 /// Puts the count and the rows at the end.
 #[tactic(auto, unfolding(crate::specs::Spelling::spell_rows))]
 pub(crate) fn put_rows<T: Row>(out: &mut Vec<u8>, rows: &[T]) -> Result<(), NoMemory>
-    ensures { OnOk result (out.new.items ≡ out.old.items ++ spell_rows T.spelling rows.now) }
+    ensures text { OnOk result (out.new.items ≡ out.old.items ++ spell_rows T.spelling rows.now) }
+    ensures typed { OnOk result (AllByRecursion (IsTyped T.rule T.valid) rows.now) }
 {
     put_count(out, rows.len())?;
     for row in rows {

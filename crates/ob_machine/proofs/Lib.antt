@@ -1,3 +1,17 @@
 pub mod Lowered
 pub mod Interpreted
 pub mod IntRange
+pub mod Filled
+pub mod Tells
+pub mod Placed
+pub mod WholeRuns
+pub mod Reached
+pub mod Words
+pub mod Handed
+pub mod Returns
+pub mod Exchanged
+pub mod Stepped
+pub mod Going
+pub mod Gone
+pub mod Finishing
+pub mod Launched

@@ -1,2 +1,12 @@
 pub mod Output
 pub mod First
+pub mod Buffers
+pub mod Devices
+pub mod Machines
+pub mod Progress
+pub mod Laws
+pub mod Executions
+pub mod Effects
+pub mod Exchanges
+pub mod Wiring
+pub mod Finished

@@ -1,6 +1,6 @@
 -- Which accesses go astray. An object's bytes are numbered by offsets from 0 to its size, and every other offset lies
 -- outside it (C99 6.5.6). Memory is seen in granules of eight bytes, which are numbered by whole numbers, negative ones too.
-use Rattle.std.specs.Prelude.{ℕ, ◌+◌, ◌/◌, ◌%◌, ◌^◌, Bool, false, ◌==◌, ◌&&◌, nat_le, nat_lt, not, ℤ, pos, negsuc, ◌+ℤ◌, ◌≤ℤ◌, unsigned_abs}
+use Rattle.std.specs.Prelude.{ℕ, ◌+◌, ◌/◌, ◌%◌, ◌^◌, Bool, true, false, ◌==◌, ◌&&◌, nat_le, nat_lt, not, ℤ, pos, negsuc, ◌+ℤ◌, ◌≤ℤ◌, unsigned_abs}
 use Rattle.std.specs.Int.{int_div_euclid, int_rem_euclid}
 use Rattle.ob_words.specs.Types.{width}
 use Rattle.ob_model.specs.declared.values.LoadKind.{LoadKind}
@@ -41,6 +41,28 @@ own_granules size = (size + 7) / 8
 abbrev pub is_own : ℕ → ℤ → Bool
 is_own size (pos n) = nat_lt (n / 8) (own_granules size)
 is_own size (negsuc n) = false
+
+-- how far an access reaches: it stays inside its object; or it goes astray, at a granule of the object's own or outside of
+-- those, where stray accesses are kept (boundless memory blocks: Rinard and others, ACSAC 2004); or it goes astray and vanishes
+pub data Reach : Type 0 where
+  inside : Reach
+  own : Reach
+  outside : Reach
+  vanishing : Reach
+
+-- a stray access, by whether it is kept and whether its granule is the object's own
+abbrev pub stray_reach : Bool → Bool → Reach
+stray_reach false its_own = vanishing
+stray_reach true true = own
+stray_reach true false = outside
+
+abbrev pub reach_if : Bool → Reach → Reach
+reach_if true astray = astray
+reach_if false astray = inside
+
+-- an ill-aligned access is never kept
+abbrev pub reach : Bool → ℕ → ℤ → ℕ → Reach
+reach keeps size offset k = reach_if (is_stray size offset k) (stray_reach (keeps && is_aligned offset k) (is_own size offset))
 
 -- a displacement, or an offset, that lies outside -2^62 to 2^62
 abbrev pub is_far : ℤ → Bool

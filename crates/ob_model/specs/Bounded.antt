@@ -22,12 +22,12 @@ abbrev pub listed_cell : {C : Type 0} → ℕ → ℤ → List (Listed C) → Op
 listed_cell object granule es = option_map (λ e. e.cell) (find (is_of object granule) es)
 
 -- a load brings a listed granule to the front
-abbrev pub brought : {C : Type 0} → Option C → ℕ → ℤ → List (Listed C) → List (Listed C)
-brought None object granule es = es
-brought (Some c) object granule es = record { object = object; granule = granule; cell = c } ∷ without_granule object granule es
+abbrev pub moved_to_front : {C : Type 0} → Option C → ℕ → ℤ → List (Listed C) → List (Listed C)
+moved_to_front None object granule es = es
+moved_to_front (Some c) object granule es = record { object = object; granule = granule; cell = c } ∷ without_granule object granule es
 
 abbrev pub after_load : {C : Type 0} → ℕ → ℤ → List (Listed C) → List (Listed C)
-after_load object granule es = brought (listed_cell object granule es) object granule es
+after_load object granule es = moved_to_front (listed_cell object granule es) object granule es
 
 -- a store puts its cell first, and the last of more than cap entries leaves
 abbrev pub put_first : {C : Type 0} → ℕ → ℤ → C → List (Listed C) → List (Listed C)
@@ -39,6 +39,6 @@ after_store cap object granule cell es = take cap (put_first object granule cell
 abbrev pub dropped : {C : Type 0} → ℕ → ℕ → ℤ → C → List (Listed C) → Option (Listed C)
 dropped cap object granule cell es = slice_get (put_first object granule cell es) cap
 
--- the entries of an object leave with it
-abbrev pub without_object : {C : Type 0} → ℕ → List (Listed C) → List (Listed C)
-without_object object es = filter (λ e. not (e.object == object)) es
+-- the list without the granules of the objects that die
+abbrev pub surviving_cells : {C : Type 0} → (ℕ → Bool) → List (Listed C) → List (Listed C)
+surviving_cells dies es = filter (λ e. not (dies e.object)) es

@@ -23,7 +23,7 @@ pub record Outcome : Type 0 where
   pub finish : Finish
   pub output : List ℕ
   pub events : List StrayEvent
-  pub place : ℕ
+  pub cycle_place : ℕ
 
 -- the program's exit status for an ending
 abbrev pub status_of : Ending → ℕ

@@ -1,12 +1,9 @@
 -- The live objects of a machine with one flat range of addresses, as a list in order of their bases. An address names the
 -- object that it lies in, or one past whose end it lies (C99 6.5.6).
-use Rattle.std.specs.Prelude.{ℕ, ◌+◌, Bool, true, false, ◌==◌, ◌&&◌, not, nat_le, nat_lt, List, [], ◌∷◌, Option}
+use Rattle.std.specs.Prelude.{ℕ, ◌+◌, Bool, ◌==◌, ◌&&◌, not, nat_le, nat_lt, List, [], ◌∷◌, Option}
 use Rattle.std.specs.List.{filter, find}
 use Rattle.ob_model.specs.declared.objects.Entry.{Entry}
-
-abbrev pub before_or_after : Bool → Entry → Entry → List Entry → List Entry → List Entry
-before_or_after true e f fs with_later = e ∷ f ∷ fs
-before_or_after false e f fs with_later = f ∷ with_later
+use Rattle.ob_model.specs.Ordered.{before_or_after}
 
 -- with one more
 abbrev pub with_entry : Entry → List Entry → List Entry
@@ -16,6 +13,10 @@ with_entry e (f ∷ fs) = before_or_after (nat_lt e.base f.base) e f fs (with_en
 -- without the one at a base
 abbrev pub without_base : ℕ → List Entry → List Entry
 without_base base entries = filter (λ e. not (e.base == base)) entries
+
+-- the entries without those of the objects that die
+abbrev pub surviving_entries : (ℕ → Bool) → List Entry → List Entry
+surviving_entries dies entries = filter (λ e. not (dies e.object)) entries
 
 -- the one at a base, of a number, and the one that an address names
 abbrev pub at_base : ℕ → List Entry → Option Entry

@@ -1,6 +1,9 @@
 -- Laws above the definitions, in the subject's own words.
-use Rattle.std.specs.Prelude.{◌≡◌, ℕ, true, ◌+◌, ◌≤◌, ◌<◌, ℤ, List, length, Some, None, MatchOption, ◌≢◌, pos, negsuc}
-use Rattle.ob_words.specs.Fields.{from_bytes}
+use Rattle.std.specs.Prelude.{◌≡◌, ◌↔◌, ℕ, Bool, true, false, ◌+◌, ◌%◌, ◌≤◌, ◌<◌, ◌==◌, ℤ, ◌+ℤ◌, ◌*ℤ◌, ◌≤ℤ◌, ◌<ℤ◌, unsigned_abs, List, [], ◌∷◌, ◌++◌, length, Some, None, MatchOption, ◌≢◌, pos, negsuc}
+use Rattle.std.specs.List.{All}
+use Rattle.ob_words.specs.Fields.{from_bytes, low_bytes}
+use Rattle.ob_model.specs.declared.values.Cell.{Cell}
+use Rattle.ob_model.specs.Accesses.{IsInside, is_aligned, is_stray, granule, place_in_granule, own_granules, is_own, inside, vanishing, reach}
 use Rattle.ob_model.specs.declared.endings.Ending.{Ending}
 use Rattle.ob_model.specs.declared.endings.Ending.TheVariants.{Ended}
 use Rattle.ob_model.specs.declared.settings.Mode.TheVariants.{Oblivious}
@@ -8,15 +11,108 @@ use Rattle.ob_model.specs.declared.settings.RunSettings.{RunSettings}
 use Rattle.ob_model.specs.Endings.{Agrees, Outcome, plain, status_of}
 use Rattle.ob_model.specs.Manufactured.{place_after}
 use Rattle.ob_model.specs.Settings.{IsFit}
-use Rattle.ob_model.specs.Heap.{Block, Fits, IsFirstFit, heap_place}
-use Rattle.ob_model.specs.Bounded.{Listed, listed_cell, after_store, dropped}
-use Rattle.ob_model.specs.Cells.{Content, read_number, read_pointer, written, pointer, has_eight}
+use Rattle.ob_model.specs.Heap.{Block, Fits, IsFirstFit, heap_place, Allocated, block_of, blocks_of, with_block, without_place, with_allocated, surviving_blocks}
+use Rattle.ob_model.specs.Descriptors.{Slots, pair_in, word_of, named_pair}
+use Rattle.ob_model.specs.Bounded.{Listed, is_of, listed_cell, after_load, after_store, dropped}
+use Rattle.ob_model.specs.Cells.{Content, read_number, read_pointer, written, pointer, has_eight, content, unset}
+
+-- ---- accesses
+
+-- eight times its granule and its place there make up an offset
+abbrev pub GranulesHaveEightPlaces : Type 0
+GranulesHaveEightPlaces =
+    (offset : ℤ) →
+    (offset ≡ granule offset *ℤ pos 8 +ℤ pos (place_in_granule offset)) × (place_in_granule offset < 8)
+
+-- an object's own granules are those from 0 on that its bytes touch
+abbrev pub OwnGranulesAreCounted : Type 0
+OwnGranulesAreCounted =
+    (size : ℕ) (offset : ℤ) →
+    (is_own size offset ≡ true) ↔ ((pos 0 ≤ℤ granule offset) × (granule offset <ℤ pos (own_granules size)))
+
+-- an access is astray unless its size divides its offset and its bytes lie in the object
+abbrev pub StraysAreTheOthers : Type 0
+StraysAreTheOthers =
+    (size : ℕ) (offset : ℤ) (k : ℕ) →
+    (is_stray size offset k ≡ false) ↔ ((unsigned_abs offset % k ≡ 0) × IsInside size offset k)
+
+-- an access that isn't astray stays inside; a stray one vanishes where strays aren't kept, and where it is ill aligned
+abbrev pub OthersStayInside : Type 0
+OthersStayInside = (keeps : Bool) (size : ℕ) (offset : ℤ) (k : ℕ) → is_stray size offset k ≡ false → reach keeps size offset k ≡ inside
+
+abbrev pub StraysVanish : Type 0
+StraysVanish = (size : ℕ) (offset : ℤ) (k : ℕ) → is_stray size offset k ≡ true → reach false size offset k ≡ vanishing
+
+abbrev pub IllAlignedVanish : Type 0
+IllAlignedVanish =
+    (keeps : Bool) (size : ℕ) (offset : ℤ) (k : ℕ) → is_aligned offset k ≡ false → reach keeps size offset k ≡ vanishing
+
+-- ---- the heap
 
 -- the heap gives the least place that fits, and none only where no place fits
 abbrev pub HeapIsFirstFit : Type 0
 HeapIsFirstFit =
     (blocks : List Block) (heap length : ℕ) →
     MatchOption (heap_place blocks heap length) ((q : ℕ) → ¬ Fits blocks heap length q) (IsFirstFit blocks heap length)
+
+-- the blocks of the heap's list with one more object are its blocks with that block
+abbrev pub BlocksAreInserted : Type 0
+BlocksAreInserted =
+    (a : Allocated) (all : List Allocated) → blocks_of (with_allocated a all) ≡ with_block (block_of a) (blocks_of all)
+
+-- where an object's block is the one at a place, that block alone leaves with the object
+abbrev pub OneBlockLeaves : Type 0
+OneBlockLeaves =
+    (object place : ℕ) (all : List Allocated) →
+    All (λ a. (a.object == object) ≡ (a.place == place)) all →
+    blocks_of (surviving_blocks (λ other. other == object) all) ≡ without_place place (blocks_of all)
+
+-- ---- descriptors
+
+-- the word of a slot names what the slot holds, and a word that is no slot's names nothing
+abbrev pub WordsNamePairs : Type 0
+WordsNamePairs = (slots : Slots) (k : ℕ) → named_pair slots (word_of k) ≡ pair_in slots k
+
+abbrev pub OtherWordsNameNothing : Type 0
+OtherWordsNameNothing = (slots : Slots) (w : ℕ) → ((k : ℕ) → w ≢ word_of k) → named_pair slots w ≡ None
+
+-- ---- the bounded list
+
+-- no entry is of this granule
+abbrev pub AreOthers : ℕ → ℤ → List (Listed ℕ) → Type 0
+AreOthers object granule es = All (λ e. is_of object granule e ≡ false) es
+
+abbrev pub entry_of : ℕ → ℤ → ℕ → Listed ℕ
+entry_of object granule cell = record { object = object; granule = granule; cell = cell }
+
+-- a load brings its granule to the front and keeps the order of the others; where it isn't listed, it changes nothing
+abbrev pub LoadMovesToFront : Type 0
+LoadMovesToFront =
+    (object : ℕ) (granule : ℤ) (cell : ℕ) (before behind : List (Listed ℕ)) →
+    AreOthers object granule (before ++ behind) →
+    after_load object granule (before ++ entry_of object granule cell ∷ behind) ≡ entry_of object granule cell ∷ (before ++ behind)
+
+abbrev pub OtherLoadsChangeNothing : Type 0
+OtherLoadsChangeNothing =
+    (object : ℕ) (granule : ℤ) (es : List (Listed ℕ)) → AreOthers object granule es → after_load object granule es ≡ es
+
+-- so does a store, with its new cell, and nothing leaves
+abbrev pub StoreMovesToFront : Type 0
+StoreMovesToFront =
+    (cap object : ℕ) (granule : ℤ) (old cell : ℕ) (before behind : List (Listed ℕ)) →
+    AreOthers object granule (before ++ behind) →
+    length (before ++ behind) < cap →
+    (after_store cap object granule cell (before ++ entry_of object granule old ∷ behind) ≡ entry_of object granule cell ∷ (before ++ behind))
+    × (dropped cap object granule cell (before ++ entry_of object granule old ∷ behind) ≡ None)
+
+-- a store at a new granule goes first, and from a full list the last entry leaves
+abbrev pub FullListDropsItsLast : Type 0
+FullListDropsItsLast =
+    (cap object : ℕ) (granule : ℤ) (cell : ℕ) (others : List (Listed ℕ)) (last : Listed ℕ) →
+    AreOthers object granule (others ++ last ∷ []) →
+    cap ≡ length others + 1 →
+    (after_store cap object granule cell (others ++ last ∷ []) ≡ entry_of object granule cell ∷ others)
+    × (dropped cap object granule cell (others ++ last ∷ []) ≡ Some last)
 
 -- what was stored last is listed, and the list keeps its bound
 abbrev pub StoredIsListed : Type 0
@@ -34,6 +130,8 @@ OthersStayListed =
     (object ≡ other → granule ≡ place → ⊥) →
     listed_cell other place (after_store cap object granule cell es) ≡ listed_cell other place es
 
+-- ---- cells
+
 -- bytes that were written are read back, whatever the granule held
 abbrev pub WrittenIsRead : Type 0
 WrittenIsRead =
@@ -48,6 +146,19 @@ KindsAreKept =
     (k place p null : ℕ) (bs : List ℕ) →
     (place + length bs ≤ 8 → read_pointer null (written place bs (pointer p)) ≡ Some null)
     × (read_number {P = ℕ} k place (pointer p) ≡ Some 0)
+
+-- a cell of the machine's list holds a pointer's word, or the bytes of a word where each is set, or nothing
+abbrev pub cell_of : Bool → ℕ → ℕ → Cell
+cell_of is_pointer set word = record { pointer = is_pointer; set = set; word = word }
+
+abbrev pub CellsHoldWords : Type 0
+CellsHoldWords =
+    (word set : ℕ) →
+    (content (cell_of true set word) ≡ pointer word)
+    × (content (cell_of false 0 word) ≡ unset)
+    × (read_number 8 0 (content (cell_of false 255 word)) ≡ Some (from_bytes (low_bytes 8 word)))
+
+-- ---- endings
 
 -- the program's own status is the remainder of its `int` modulo 128, and every other status is above those
 abbrev pub OwnStatusIsBelow : Type 0
@@ -66,6 +177,8 @@ OutcomesAgree = (x : Outcome) → Agrees x x
 
 abbrev pub PlainOutcomesAreEqual : Type 0
 PlainOutcomesAreEqual = (run meaning : Outcome) (e : Ending) → meaning.finish ≡ plain e → Agrees run meaning → run ≡ meaning
+
+-- ---- settings
 
 -- the settings that a program is run with unless others are given
 abbrev pub usual : RunSettings

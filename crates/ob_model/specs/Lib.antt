@@ -1,6 +1,8 @@
 pub mod Accesses
+pub mod Ordered
 pub mod Heap
 pub mod Entries
+pub mod Descriptors
 pub mod Cells
 pub mod Manufactured
 pub mod Bounded

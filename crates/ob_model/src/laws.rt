@@ -1,9 +1,45 @@
-ghost use Rattle.ob_model.specs.Laws.{HeapIsFirstFit, StoredIsListed, OthersStayListed, WrittenIsRead, KindsAreKept, OwnStatusIsBelow, OtherStatusIsAbove, StatusOfSmallNumbers, OutcomesAgree, PlainOutcomesAreEqual, UsualSettingsAreFit, PlacesStayInTheCycle};
+ghost use Rattle.ob_model.specs.Laws.{GranulesHaveEightPlaces, OwnGranulesAreCounted, StraysAreTheOthers, OthersStayInside, StraysVanish, IllAlignedVanish, HeapIsFirstFit, BlocksAreInserted, OneBlockLeaves, WordsNamePairs, OtherWordsNameNothing, LoadMovesToFront, OtherLoadsChangeNothing, StoreMovesToFront, FullListDropsItsLast, StoredIsListed, OthersStayListed, WrittenIsRead, KindsAreKept, CellsHoldWords, OwnStatusIsBelow, OtherStatusIsAbove, StatusOfSmallNumbers, OutcomesAgree, PlainOutcomesAreEqual, UsualSettingsAreFit, PlacesStayInTheCycle};
+
+/// A granule has eight places, and an object's own granules are those that its bytes touch.
+pub fn law_granules()
+    ensures places { GranulesHaveEightPlaces }
+    ensures own { OwnGranulesAreCounted }
+{}
+
+/// An access is astray unless it is aligned and inside. A stray access vanishes where strays aren't kept,
+/// and where it is ill aligned.
+pub fn law_strays()
+    ensures others { StraysAreTheOthers }
+    ensures inside { OthersStayInside }
+    ensures vanishing { StraysVanish }
+    ensures ill_aligned { IllAlignedVanish }
+{}
 
 /// The heap's place for a block is the least multiple of 16 where it fits; there is none only where no
 /// place fits.
 pub fn law_first_fit()
     ensures { HeapIsFirstFit }
+{}
+
+/// The blocks of the heap's list of objects change as the list does.
+pub fn law_heap_blocks()
+    ensures inserted { BlocksAreInserted }
+    ensures leaves { OneBlockLeaves }
+{}
+
+/// A slot's word names what the slot holds, and no other word names a pair.
+pub fn law_descriptors()
+    ensures slots { WordsNamePairs }
+    ensures others { OtherWordsNameNothing }
+{}
+
+/// Loads and stores at a listed granule bring it to the front and keep the order of the others. A store
+/// at a new granule goes first, and the last entry of a full list leaves.
+pub fn law_recency()
+    ensures load { LoadMovesToFront }
+    ensures other_load { OtherLoadsChangeNothing }
+    ensures store { StoreMovesToFront }
+    ensures full { FullListDropsItsLast }
 {}
 
 /// After a store the bounded list holds what was stored, and no more than its bound. Where nothing was
@@ -14,10 +50,12 @@ pub fn law_bounded_list()
 {}
 
 /// Bytes that were written to a granule are read back. A pointer that a number was written over is gone,
-/// and a pointer reads as the number 0.
+/// and a pointer reads as the number 0. A cell holds a pointer's word, or those bytes of a word that are
+/// set.
 pub fn law_cells()
     ensures bytes { WrittenIsRead }
     ensures kinds { KindsAreKept }
+    ensures cells { CellsHoldWords }
 {}
 
 /// The status of a program's own ending is its `int` modulo 128, and every other ending's is above 128.

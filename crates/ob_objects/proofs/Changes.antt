@@ -3,7 +3,8 @@ use Rattle.std.proofs.Common.{◌≡◌, ℕ, zero, suc, ◌<◌, ◌≤◌, tru
 use Rattle.std.specs.Prelude.{◌==◌, insert, remove}
 use Rattle.std.proofs.lemmas.Bool.{cases_lt, lt-ltb, le-ltb, eq-eqb, ne_eqb, cond-true, cond-false}
 use Rattle.ob_model.specs.declared.objects.Entry.{Entry}
-use Rattle.ob_model.specs.Entries.{with_entry, without_base, before_or_after, at_base}
+use Rattle.ob_model.specs.Entries.{with_entry, without_base, at_base}
+use Rattle.ob_model.specs.Ordered.{before_or_after}
 use Rattle.ob_objects.specs.Objects.{IsInOrder}
 use Rattle.ob_objects.proofs.Order.{bases_rise, find_first, find_none}
 

@@ -5,7 +5,8 @@ use Rattle.std.specs.List.{All, AllPairs}
 use Rattle.std.proofs.lemmas.Bool.{cases_eq, cases_lt, lt-ltb, le-ltb, eq-eqb, ne_eqb, cond-true, cond-false}
 use Rattle.std.proofs.lemmas.List.Edits.{length-insert, get_or-insert_below, get_or-insert_at, get_or-insert_above, length-remove, get_or-remove_below, get_or-remove_above}
 use Rattle.std.proofs.lemmas.List.Quantifiers.{all_pairs_remove}
-use Rattle.ob_model.specs.Heap.{Block, with_block, without_place, before_or_after}
+use Rattle.ob_model.specs.Heap.{Block, with_block, without_place}
+use Rattle.ob_model.specs.Ordered.{before_or_after}
 use Rattle.ob_shelf.specs.declared.blocks.LiveBlock.{LiveBlock}
 use Rattle.ob_shelf.specs.Blocks.{as_block, as_blocks, no_block, IsInOrder, IsGranular, Precedes, AreLaid}
 use Rattle.ob_shelf.proofs.Order.{places_rise}

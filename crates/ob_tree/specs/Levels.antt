@@ -93,44 +93,44 @@ IsInfix (Infix.Binary s) = 0 < binary_level s
 -- the nonterminal that an operator makes, and those of its operands: a binary operator has one of its own
 -- nonterminal on its left, and one of the next on its right; an assignment has a unary expression on its left
 abbrev pub infix_level : Infix → ℕ
-infix_level Infix.Comma = 0
-infix_level (Infix.Assign s) = 1
+infix_level Infix.Comma = expr_level
+infix_level (Infix.Assign s) = assign_level
 infix_level (Infix.Binary s) = binary_level s
 
 abbrev pub left_level : Infix → ℕ
-left_level Infix.Comma = 0
-left_level (Infix.Assign s) = 14
+left_level Infix.Comma = expr_level
+left_level (Infix.Assign s) = unary_level
 left_level (Infix.Binary s) = binary_level s
 
 abbrev pub right_level : Infix → ℕ
-right_level Infix.Comma = 1
-right_level (Infix.Assign s) = 1
+right_level Infix.Comma = assign_level
+right_level (Infix.Assign s) = assign_level
 right_level (Infix.Binary s) = binary_level s + 1
 
 -- the nonterminal of a step, which is also that of its operand: `++` and `--` make a postfix expression
 -- behind one, and a unary expression before one
 abbrev pub step_level : (post : Bool) → ℕ
-step_level false = 14
-step_level true = 15
+step_level false = unary_level
+step_level true = postfix_level
 
 -- the nonterminal of an expression
 abbrev pub level_of : ExprTree → ℕ
-level_of (ExprTree.Name m name) = 16
-level_of (ExprTree.Number m value ty) = 16
-level_of (ExprTree.Null m) = 16
-level_of (ExprTree.Eof m) = 16
-level_of (ExprTree.Str m strings) = 16
-level_of (ExprTree.Paren m e) = 16
-level_of (ExprTree.Index m b i) = 15
-level_of (ExprTree.Call m name es) = 16
-level_of (ExprTree.Member m b name) = 15
-level_of (ExprTree.Arrow m b name) = 15
+level_of (ExprTree.Name m name) = primary_level
+level_of (ExprTree.Number m value ty) = primary_level
+level_of (ExprTree.Null m) = primary_level
+level_of (ExprTree.Eof m) = primary_level
+level_of (ExprTree.Str m strings) = primary_level
+level_of (ExprTree.Paren m e) = primary_level
+level_of (ExprTree.Index m b i) = postfix_level
+level_of (ExprTree.Call m name es) = primary_level
+level_of (ExprTree.Member m b name) = postfix_level
+level_of (ExprTree.Arrow m b name) = postfix_level
 level_of (ExprTree.Step m post down e) = step_level post
-level_of (ExprTree.Unary m s e) = 14
-level_of (ExprTree.SizeExpr m e) = 14
-level_of (ExprTree.SizeType m t) = 14
-level_of (ExprTree.Cast m t e) = 13
-level_of (ExprTree.Cond m c x y) = 2
+level_of (ExprTree.Unary m s e) = unary_level
+level_of (ExprTree.SizeExpr m e) = unary_level
+level_of (ExprTree.SizeType m t) = unary_level
+level_of (ExprTree.Cast m t e) = cast_level
+level_of (ExprTree.Cond m c x y) = cond_level
 level_of (ExprTree.Join m op l r) = infix_level op
 
 -- where an expression stands

@@ -13,6 +13,10 @@ pub mod Spelling
 pub mod ProgramSpelling
 pub mod ExpressionView
 pub mod ProgramView
+pub mod Types
+pub mod TypeView
+pub mod Sizes
+pub mod Parts
 pub mod Levels
 pub mod Integers
 pub mod Valid
@@ -23,6 +27,4 @@ pub mod ProgramValid
 pub mod ProgramPlaces
 pub mod ProgramPaths
 pub mod ProgramFronts
-pub mod Types
-pub mod TypeView
 pub mod Answers

@@ -1,9 +1,12 @@
 ghost use Rattle.std.specs.Prelude.{◌≡◌, ◌+◌, ◌<◌, ◌≤◌, ◌↔◌, IsTrue, length, unsigned_abs};
 ghost use Rattle.ob_code.specs.Frames.{function_at};
-ghost use Rattle.ob_code.specs.Rules.{IsPartAnswer, IsCodeOf, IsCodeSound, AreFunctionsSound, code_end, words_of, IsWritten, IsPlaceOf, IsBelow, IsBetween, IsOrdering, IsLast, IsBuilt, AreOperandsSound, IsInstructionSound};
+ghost use Rattle.ob_code.specs.Rules.{IsCodeOf, AreFunctionsSound, code_end, words_of, IsWritten, IsPlaceOf, IsBelow, IsBetween, IsOrdering, IsLast, AreOperandsSound, IsInstructionSound};
+ghost use Rattle.ob_code.specs.Unbuilt.{IsCodeBuilt};
+ghost use Rattle.ob_code.specs.FirstFault.{IsPartAnswer, IsCodeRunnable};
 
 use crate::image::Image;
 use crate::instructions::Instr;
+use crate::rules::unbuilt::instruction_is_built;
 use ob_words::Relation;
 
 const MOST_INSTRUCTIONS: usize = 1_048_576;
@@ -65,7 +68,7 @@ fn is_ordering(relation: Relation) -> bool
 
 // A call's function exists and has no more parameters than words from b on.
 fn is_call(image: &Image, words: u32, b: u32, imm: i64) -> bool
-    ensures { IsTrue result ↔ (IsBelow (length image.now.functions) imm × (b + (function_at image.now (unsigned_abs imm)).params ≤ words)) }
+    ensures { IsTrue result ↔ (IsBelow (length image.now.functions) imm × (b + (function_at image.now.functions (unsigned_abs imm)).params ≤ words)) }
 {
     let functions = image.functions.as_slice();
     match usize::try_from(imm) {
@@ -142,20 +145,6 @@ fn is_last(instr: Instr) -> bool
     }
 }
 
-// Whether the machine runs the instruction yet.
-fn is_built(instr: Instr) -> bool
-    ensures { IsTrue result ↔ IsBuilt instr }
-{
-    match instr {
-        Instr::Static { .. } | Instr::Local { .. } | Instr::Wipe { .. } => false,
-        Instr::Load { .. } | Instr::Store { .. } | Instr::Shift { .. } | Instr::Same { .. } =>
-            false,
-        Instr::Order { .. } | Instr::Difference { .. } => false,
-        Instr::Malloc { .. } | Instr::Calloc { .. } | Instr::Free { .. } => false,
-        _ => true,
-    }
-}
-
 fn instruction_is_sound(image: &Image, f: usize, i: usize) -> bool
     requires function { f < length image.now.functions }
     requires place { i < length image.now.code }
@@ -163,7 +152,15 @@ fn instruction_is_sound(image: &Image, f: usize, i: usize) -> bool
 {
     let instr = image.code.as_slice()[i];
     let goes_on = i + 1 != code_end(image, f) || is_last(instr);
-    goes_on && operands_are_sound(image, f, instr) && is_built(instr)
+    goes_on && operands_are_sound(image, f, instr)
+}
+
+fn instruction_is_runnable(image: &Image, f: usize, i: usize) -> bool
+    requires function { f < length image.now.functions }
+    requires place { i < length image.now.code }
+    ensures { IsTrue result ↔ (IsInstructionSound image.now f i × IsCodeBuilt image.now i) }
+{
+    instruction_is_sound(image, f, i) && instruction_is_built(image.code.as_slice()[i])
 }
 
 // The function whose code has place i, where f is that of the place before.
@@ -171,7 +168,7 @@ fn holder(image: &Image, f: usize, i: usize) -> usize
     requires sound { AreFunctionsSound image.now }
     requires place { i < length image.now.code }
     requires function { f < length image.now.functions }
-    requires after_entry { (function_at image.now f).entry ≤ i }
+    requires after_entry { (function_at image.now.functions f).entry ≤ i }
     requires before_end { i ≤ code_end image.now f }
     ensures { IsCodeOf image.now result i }
 {
@@ -181,7 +178,7 @@ fn holder(image: &Image, f: usize, i: usize) -> usize
 /// The first instruction that breaks a rule.
 pub fn code_fault(image: &Image) -> Option<u64>
     requires { AreFunctionsSound image.now }
-    ensures { IsPartAnswer 1048576 (length image.now.code) (IsCodeSound image.now) result }
+    ensures { IsPartAnswer 1048576 (length image.now.code) (IsCodeRunnable image.now) result }
 {
     let count = image.code.as_slice().len();
     if count > MOST_INSTRUCTIONS {
@@ -190,7 +187,7 @@ pub fn code_fault(image: &Image) -> Option<u64>
     let mut f = 0;
     for i in 0..count {
         f = holder(image, f, i);
-        if !instruction_is_sound(image, f, i) {
+        if !instruction_is_runnable(image, f, i) {
             return Some(i as u64);
         }
     }

@@ -1,9 +1,11 @@
 ghost use Rattle.std.specs.Prelude.{◌≡◌, ◌+◌, ◌<◌, ◌≤◌, ◌^◌, ◌↔◌, IsTrue, ℕ, length, MatchOption};
 ghost use Rattle.ob_words.specs.Words.{block};
 ghost use Rattle.ob_code.specs.Frames.{words_end, local_end, locals_end, frame_length, function_at};
-ghost use Rattle.ob_code.specs.Rules.{IsLocalSound, local_at, IsFrameSound, IsEntrySound, IsFunctionSound, AreFunctionsSound, IsFunctionFault};
+ghost use Rattle.ob_code.specs.Rules.{IsLocalSound, local_at, IsFrameSound, IsEntrySound, IsFunctionSound};
+ghost use Rattle.ob_code.specs.FirstFault.{AreFunctionsRunnable, IsFunctionFault};
 
 use crate::image::{FunctionRow, Image, LocalRow};
+use crate::rules::unbuilt::function_is_built;
 
 const MOST_FUNCTIONS: usize = 65_536;
 
@@ -54,8 +56,9 @@ fn locals_are_sound(f: &FunctionRow) -> bool
     true
 }
 
-// How many bytes a frame has.
-fn frame_length(f: &FunctionRow) -> u128
+/// How many bytes a frame of this function has: its words, in whole blocks of 16 bytes, and the blocks of
+/// its local objects.
+pub fn frame_length(f: &FunctionRow) -> u128
     ensures { result ≡ frame_length f.now }
 {
     let end = match f.locals.as_slice().last() {
@@ -96,12 +99,12 @@ fn function_is_sound(image: &Image, i: usize) -> bool
     ensures { IsTrue result ↔ IsFunctionSound image.now i }
 {
     let f = &image.functions.as_slice()[i];
-    entry_is_sound(image, i) && frame_is_sound(f) && f.locals.as_slice().is_empty()
+    entry_is_sound(image, i) && frame_is_sound(f)
 }
 
 /// The first function row that breaks a rule: 0 where there is none.
 pub fn function_fault(image: &Image) -> Option<u64>
-    ensures { MatchOption result (AreFunctionsSound image.now) (IsFunctionFault image.now) }
+    ensures { MatchOption result (AreFunctionsRunnable image.now) (IsFunctionFault image.now) }
 {
     let count = image.functions.as_slice().len();
     if count == 0 {
@@ -111,7 +114,8 @@ pub fn function_fault(image: &Image) -> Option<u64>
         return Some(MOST_FUNCTIONS as u64);
     }
     for i in 0..count {
-        if !function_is_sound(image, i) {
+        let f = &image.functions.as_slice()[i];
+        if !function_is_sound(image, i) || !function_is_built(f) {
             return Some(i as u64);
         }
     }

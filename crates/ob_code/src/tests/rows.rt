@@ -137,6 +137,40 @@ fn parts_in_order(rt: HostRuntime) -> Result<(), Fail> {
     Ok(())
 }
 
+// As many rows of a part with static objects as there may be, and one more. A static object is refused at
+// its row, and a pointer has none to lie in.
+#[test]
+fn limits_of_objects(rt: HostRuntime) -> Result<(), Fail> {
+    let alloc = rt.alloc();
+    for (count, row) in [(262_144, 0), (262_145, 262_144)] {
+        let mut statics = Vec::new(alloc);
+        for _ in 0..count {
+            statics.push(StaticRow {
+                size: 0,
+                given: Text::new(alloc),
+            })?;
+        }
+        let mut made = one_function(alloc, &[Instr::Return { b: 0 }])?;
+        made.statics = Rows::from_vec(statics);
+        assert_eq!(rt; fault(made), at(Part::Static, row));
+    }
+    for (count, row) in [(524_288, 0), (524_289, 524_288)] {
+        let mut pointers = Vec::new(alloc);
+        for _ in 0..count {
+            pointers.push(PointerRow {
+                holder: 1,
+                offset: 0,
+                target: 1,
+                target_offset: 0,
+            })?;
+        }
+        let mut made = one_function(alloc, &[Instr::Return { b: 0 }])?;
+        made.pointers = Rows::from_vec(pointers);
+        assert_eq!(rt; fault(made), at(Part::Pointer, row));
+    }
+    Ok(())
+}
+
 // As many functions and instructions as there may be, and one more.
 #[test]
 fn limits(rt: HostRuntime) -> Result<(), Fail> {

@@ -1,4 +1,4 @@
-use crate::tests::bytes::SMALL;
+use crate::tests::bytes::{FAR, SMALL};
 use crate::{ImageFault, read_image};
 use std::alloc::Global;
 use std::test::Fail;
@@ -59,6 +59,95 @@ fn one_wrong_byte(rt: HostRuntime) {
         assert_eq!(rt;
             place(rt.alloc(), &bytes),
             Some(ImageFault::At(at as u64)),
+            "{at} {value}"
+        );
+    }
+}
+
+// Each byte of each count of the small image turned to another value, and where the first wrong byte
+// then stands: the count's low bytes claim rows that the bytes behind it are read as.
+const COUNTS_OF_SMALL: [(usize, u8, Option<u64>); 30] = [
+    (8, 1, Some(140)),
+    (8, 2, Some(75)),
+    (9, 1, Some(75)),
+    (10, 4, Some(75)),
+    (10, 5, Some(10)),
+    (11, 1, Some(11)),
+    (12, 1, Some(52)),
+    (12, 3, Some(100)),
+    (13, 1, Some(168)),
+    (14, 8, Some(168)),
+    (14, 9, Some(14)),
+    (15, 1, Some(15)),
+    (16, 2, Some(84)),
+    (16, 3, Some(112)),
+    (16, 5, None),
+    (17, 1, Some(168)),
+    (18, 1, Some(18)),
+    (19, 1, Some(19)),
+    (44, 1, Some(76)),
+    (44, 2, Some(112)),
+    (45, 1, Some(168)),
+    (46, 8, Some(168)),
+    (46, 9, Some(46)),
+    (47, 1, Some(47)),
+    (52, 1, Some(84)),
+    (52, 5, Some(168)),
+    (53, 1, Some(168)),
+    (54, 16, Some(54)),
+    (54, 15, Some(168)),
+    (55, 1, Some(55)),
+];
+
+// The same for the image with a static object: its count, the object's size, how many bytes are given, and
+// the counts of pointers and functions.
+const COUNTS_OF_FAR: [(usize, u8, Option<u64>); 23] = [
+    (8, 2, Some(296)),
+    (8, 255, Some(107)),
+    (16, 1, None),
+    (19, 255, None),
+    (20, 1, Some(28)),
+    (20, 2, Some(29)),
+    (21, 1, Some(283)),
+    (22, 64, Some(296)),
+    (22, 65, Some(22)),
+    (23, 1, Some(23)),
+    (24, 1, Some(24)),
+    (25, 1, Some(25)),
+    (26, 1, Some(26)),
+    (27, 1, Some(27)),
+    (28, 1, Some(68)),
+    (28, 2, Some(288)),
+    (29, 1, Some(296)),
+    (30, 9, Some(30)),
+    (31, 1, Some(31)),
+    (32, 2, Some(100)),
+    (33, 1, Some(296)),
+    (34, 1, Some(34)),
+    (35, 1, Some(35)),
+];
+
+#[test]
+fn turned_counts(rt: HostRuntime) {
+    for (at, value, wrong) in COUNTS_OF_SMALL {
+        let mut bytes = SMALL;
+        if let Some(byte) = bytes.get_mut(at) {
+            *byte = value;
+        }
+        assert_eq!(rt;
+            place(rt.alloc(), &bytes),
+            wrong.map(ImageFault::At),
+            "{at} {value}"
+        );
+    }
+    for (at, value, wrong) in COUNTS_OF_FAR {
+        let mut bytes = FAR;
+        if let Some(byte) = bytes.get_mut(at) {
+            *byte = value;
+        }
+        assert_eq!(rt;
+            place(rt.alloc(), &bytes),
+            wrong.map(ImageFault::At),
             "{at} {value}"
         );
     }

@@ -1,5 +1,5 @@
 use Rattle.std.proofs.Common.{◌≡◌, None, Some, arith, sym, ap, ◌∙◌}
-use Rattle.ob_away.specs.Slots.{vacant}
+use Rattle.ob_model.specs.Descriptors.{vacant}
 use Rattle.ob_away.proofs.FreeList.{vacant-empty, IfNone-from}
 use Rattle.ob_away.proofs.Vacant.{pair_count-vacant, extended-count, extended-put, extended-listed, IfSome-map}
 use Rattle.ob_away.proofs.free.claim.Goals as goal

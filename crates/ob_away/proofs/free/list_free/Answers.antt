@@ -1,7 +1,7 @@
 use Rattle.std.proofs.Common.{◌≡◌, ◌-◌, ◌∷◌, ◌++◌, [], true, false, arith, sym, ap, ◌∙◌, append_assoc}
 use Rattle.std.specs.Prelude.{is_none}
 use Rattle.std.proofs.lemmas.Grind.{common_steps}
-use Rattle.ob_away.specs.Slots.{pair_in}
+use Rattle.ob_model.specs.Descriptors.{pair_in}
 use Rattle.ob_away.proofs.FreeList.{free_below-down_free, free_below-down_used}
 use Rattle.ob_away.proofs.free.list_free.Goals as goal
 

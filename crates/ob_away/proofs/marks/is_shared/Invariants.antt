@@ -1,5 +1,5 @@
 use Rattle.std.proofs.Common.{◌≡◌, ℕ, ◌<◌, Some}
-use Rattle.ob_away.specs.Slots.{Pair, pair_in}
+use Rattle.ob_model.specs.Descriptors.{Pair, pair_in}
 use Rattle.ob_away.specs.Kept.{mark_of}
 use Rattle.ob_away.proofs.marks.is_shared.Given as goal
 

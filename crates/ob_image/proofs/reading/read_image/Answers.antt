@@ -1,5 +1,6 @@
 use Rattle.std.proofs.Common.{arith}
-use Rattle.ob_image.proofs.Wholes.{read_whole, read_wrong, are_bytes}
+use Rattle.ob_image.proofs.Readers.{are_bytes}
+use Rattle.ob_image.proofs.Wholes.{read_whole, read_wrong}
 use Rattle.ob_image.proofs.reading.read_image.Goals as goal
 
 pub overflow_sub-result : goal.overflow_sub-result

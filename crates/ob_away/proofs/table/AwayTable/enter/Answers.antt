@@ -1,6 +1,7 @@
 use Rattle.std.proofs.Common.{◌≡◌, ◌<◌, length, set, Some, None, Ok, true, arith, ap, sym, ◌∙◌}
 use Rattle.std.proofs.lemmas.List.{length-set}
-use Rattle.ob_away.specs.Slots.{Descriptors, Slots, slot_of, word_of}
+use Rattle.ob_model.specs.Descriptors.{Slots, slot_of, word_of}
+use Rattle.ob_away.specs.Slots.{Descriptors}
 use Rattle.ob_away.specs.Kept.{IsIndexed, mark_of, free_below}
 use Rattle.ob_away.proofs.Changes.{IsInterned-same, IsIndexed-same, IsMarked-same, IsInterned-entered, IsIndexed-entered, IsMarked-entered, mark_of-below}
 use Rattle.ob_away.proofs.Vacant.{slot_of-same}

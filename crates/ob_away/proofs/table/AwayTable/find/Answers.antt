@@ -1,5 +1,6 @@
 use Rattle.std.proofs.Common.{ap, ◌∙◌}
-use Rattle.ob_away.specs.Slots.{Slots, Descriptors, slot_of}
+use Rattle.ob_model.specs.Descriptors.{Slots, slot_of}
+use Rattle.ob_away.specs.Slots.{Descriptors}
 use Rattle.ob_away.proofs.table.AwayTable.find.Goals as goal
 
 pub returns-clause-slot : goal.returns-clause-slot

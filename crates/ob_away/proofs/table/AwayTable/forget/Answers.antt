@@ -1,6 +1,7 @@
 use Rattle.std.proofs.Common.{◌≡◌, ◌<◌, ℕ, Some, Bool, List, length, false, get_or, ap, sym, ◌∙◌, arith}
 use Rattle.std.proofs.lemmas.List.{length-map, length-set}
-use Rattle.ob_away.specs.Slots.{Descriptors, Slots, Pair, without, pair_in}
+use Rattle.ob_model.specs.Descriptors.{Slots, Pair, pair_in}
+use Rattle.ob_away.specs.Slots.{Descriptors, without}
 use Rattle.ob_away.specs.Kept.{mark_of, free_below}
 use Rattle.ob_away.proofs.Changes.{without-unmarked, IsInterned-without, IsIndexed-without, IsMarked-without, mark_of-below}
 use Rattle.ob_away.proofs.table.AwayTable.forget.Goals as goal

@@ -1,6 +1,7 @@
 use Rattle.std.proofs.Common.{length, ap, sym, ◌∙◌, arith}
 use Rattle.std.proofs.lemmas.Grind.{common_steps}
-use Rattle.ob_away.specs.Slots.{Descriptors, Slots}
+use Rattle.ob_model.specs.Descriptors.{Slots}
+use Rattle.ob_away.specs.Slots.{Descriptors}
 use Rattle.ob_away.proofs.Changes.{IsInterned-none, IsIndexed-none, IsMarked-none, free_below-none}
 use Rattle.ob_away.proofs.table.AwayTable.new.Goals as goal
 

@@ -1,7 +1,7 @@
 use Rattle.std.proofs.Common.{◌≡◌, ℤ, Some, None, ap, ◌∙◌, w64}
 use Rattle.std.proofs.lemmas.Int.{to_z-of_z}
 use Rattle.std.proofs.lemmas.Bool.{false≢true}
-use Rattle.ob_away.specs.Slots.{slot_of}
+use Rattle.ob_model.specs.Descriptors.{slot_of}
 use Rattle.ob_away.proofs.table.AwayTable.word_for.Goals as goal
 
 pub returns-in-Some-clause-entered : goal.returns-in-Some-clause-entered

@@ -1,0 +1,11 @@
+//! The values of integer constant expressions (C99 6.6): exactly that of the definition, or a refusal
+//! exactly where an expression is none or divides by zero where it is evaluated. Takes no memory.
+//! Stands on `ob_words`, `ob_tree` and `ob_typed`.
+#![tactic(auto)]
+
+pub use constants::{NotConstant, constant};
+
+mod constants;
+pub mod laws;
+#[cfg(test)]
+mod tests;

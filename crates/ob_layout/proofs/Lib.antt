@@ -1,0 +1,5 @@
+pub mod Caps
+pub mod Layouts
+pub mod Found
+pub mod Depths
+pub mod RoundUps

@@ -1,0 +1,172 @@
+-- What goes through the buffers: nothing, a byte, and one exchange after another.
+use Rattle.std.proofs.Common.{◌≡◌, ◌≢◌, ℕ, ◌+◌, ◌-◌, ◌^◌, Bool, true, false, List, [], ◌∷◌, ◌++◌, length, take, Option, Some, None, Result, Ok, Err, refl, sym, ap, ◌∙◌, subst, append_assoc}
+use Rattle.std.specs.Prelude.{MatchBool, MatchOption}
+use Rattle.std.specs.Io.KnownBytes.{append_known, prepend_known, IsAtEnd}
+use Rattle.std.proofs.lemmas.List.{append-nil, append_cancel_left}
+use Rattle.ob_base.specs.Sink.{Tally}
+use Rattle.ob_base.proofs.Appending.{append_known-nil, tally_known-nil}
+use Rattle.ob_model.specs.declared.endings.Ending.{Ending}
+use Rattle.ob_model.specs.declared.endings.Ending.TheVariants.{Steps}
+use Rattle.ob_model.specs.Endings.{InputEnd, closed, failed}
+use Rattle.ob_code.specs.Machine.{get_char, set_word, ticked}
+use Rattle.ob_code.specs.State.{Next, State, goes, stops}
+use Rattle.ob_machine.specs.declared.execution.Execution.{Execution}
+use Rattle.ob_machine.specs.declared.ports.Fault.{Fault}
+use Rattle.ob_machine.specs.declared.ports.Fault.TheVariants.{Read, Write}
+use Rattle.ob_machine.specs.Buffers.{IsFilled, IsUsedUp, Unread}
+use Rattle.ob_machine.specs.Executions.{Beside, Is, state_of, word_of_byte}
+use Rattle.ob_machine.specs.Exchanges.{Advances, Answers, CanFollow, Devices, IsRefilled, KnowsEnd, Moves, Puts, having_written, reading}
+use Rattle.ob_machine.specs.Output.{SentOrPending}
+use Rattle.ob_machine.proofs.Handed.{ticked_once}
+use Rattle.ob_machine.proofs.Interpreted.{sent_none}
+
+prepend-nil : (known : Option (List ℕ)) → known ≡ prepend_known [] known
+prepend-nil None = refl
+prepend-nil (Some xs) = refl
+
+-- nothing was read and written
+pub still : (d : Devices) → KnowsEnd d.unread d.left → Moves d d [] []
+still d knows = record { was_left = prepend-nil d.left; knows_end = knows; ended = λ h. (refl, h); read_quiet = refl; sent = sent_none d.taken d.tally d.pending; write_quiet = refl }
+
+pub nothing_written : (e : Execution) (input : List ℕ) (b : Beside) → reading e input b ≡ state_of e (having_written input [] b)
+nothing_written e input b = ap (λ output. state_of e (record b { input = input; output = output })) (sym (append-nil b.output))
+
+ticked_none : (left : ℕ) (s : State) (k : State → Next) → left ≡ 0 → ticked left s k ≡ stops Steps s
+ticked_none left s k none = ap (λ n. ticked n s k) none
+
+-- where no step is left
+pub no_step : (does : InputEnd → State → Next) (k : InputEnd → State → Next) (e : Execution) (d : Devices) → ((input_end : InputEnd) (s : State) → does input_end s ≡ ticked s.steps s (k input_end)) → e.steps ≡ 0 → KnowsEnd d.unread d.left → Advances does e e d d (Some Steps)
+no_step does k e d is none knows =
+    record {
+      read = [];
+      written = [];
+      moves = still d knows;
+      same = λ input_end more b can.
+          is input_end (reading e (d.unread.bytes ++ more) b)
+          ∙ ticked_none e.steps (reading e (d.unread.bytes ++ more) b) (k input_end) none
+          ∙ ap (stops Steps) (nothing_written e (d.unread.bytes ++ more) b);
+    }
+
+-- the buffer has a byte, or the end was met
+pub record HasNext (d d' : Devices) : Type 0 where
+  pub read : List ℕ
+  pub moves : Moves d d' read []
+  pub joined : d.unread.bytes ++ read ≡ d'.unread.bytes
+  pub ended : d'.unread.bytes ≡ [] → d'.unread.at_end ≡ true
+
+filled_end : (b : Bool) (bytes : List ℕ) (left : Option (List ℕ)) → MatchBool b ((bytes ≡ []) × IsAtEnd left) (bytes ≢ []) → bytes ≡ [] → b ≡ true
+filled_end true bytes left h e = refl
+filled_end false bytes left h e = absurd (h e)
+
+pub refilled_next : (d d' : Devices) → IsUsedUp d.unread → IsRefilled d d' → HasNext d d'
+refilled_next d d' used r =
+    record {
+      read = d'.unread.bytes;
+      moves = r.moves;
+      joined = ap (λ xs. xs ++ d'.unread.bytes) used.none;
+      ended = filled_end d'.unread.at_end d'.unread.bytes d'.left r.filled;
+    }
+
+not_used : (b : Bool) (bytes : List ℕ) → ¬ IsUsedUp (record { bytes = bytes; at_end = b }) → bytes ≡ [] → b ≡ true
+not_used true bytes h e = refl
+not_used false bytes h e = absurd (h (record { none = e; more = refl }))
+
+pub still_next : (d : Devices) → KnowsEnd d.unread d.left → ¬ IsUsedUp d.unread → HasNext d d
+still_next d knows h =
+    record { read = []; moves = still d knows; joined = append-nil d.unread.bytes; ended = not_used d.unread.at_end d.unread.bytes h }
+
+byte_taken : (input_end : InputEnd) (byte : ℕ) (rest : List ℕ) (a : ℕ) (t : State) → get_char input_end (byte ∷ rest) a t ≡ set_word (record t { input = rest }) a byte
+byte_taken closed byte rest a t = refl
+byte_taken failed byte rest a t = refl
+
+-- the run with one step less
+abbrev pub stepped : Execution → Execution
+stepped e = record e { steps = e.steps - 1 }
+
+-- the next byte of the buffer
+abbrev pub Takes : Unread → Unread → Option ℕ → Type 0
+Takes u v byte = (v.at_end ≡ u.at_end) × MatchOption byte ((u.bytes ≡ []) × (v.bytes ≡ [])) (λ b. u.bytes ≡ b ∷ v.bytes)
+
+taken_is : (u v : Unread) (byte : Option ℕ) (e : Execution) (a : ℕ) (input_end : InputEnd) (more : List ℕ) (b : Beside) → Takes u v byte → (u.bytes ≡ [] → u.at_end ≡ true) → CanFollow v more input_end → get_char input_end (u.bytes ++ more) a (reading e (u.bytes ++ more) b) ≡ set_word (reading e (v.bytes ++ more) b) a (word_of_byte byte)
+taken_is u v None e a input_end more b takes ended can =
+    let none = can (takes.0 ∙ ended takes.1.0) in
+    let input : u.bytes ++ more ≡ [] = (λ i. takes.1.0 i ++ none.0 i) in
+    let rest : [] ≡ v.bytes ++ more = sym (λ i. takes.1.1 i ++ none.0 i) in
+    (λ i. get_char (none.1 i) (input i) a (reading e (input i) b)) ∙ ap (λ xs. set_word (reading e xs b) a (2 ^ 64 - 1)) rest
+taken_is u v (Some byte) e a input_end more b takes ended can =
+    ap (λ xs. get_char input_end (xs ++ more) a (reading e (xs ++ more) b)) takes.1 ∙ byte_taken input_end byte (v.bytes ++ more) a (reading e (byte ∷ (v.bytes ++ more)) b)
+
+pub got_char : (does : InputEnd → State → Next) (e f : Execution) (d d' : Devices) (v : Unread) (byte : Option ℕ) (a w : ℕ) → ((input_end : InputEnd) (s : State) → does input_end s ≡ ticked s.steps s (λ t. get_char input_end t.input a t)) → (e.steps ≡ 0 → ⊥) → HasNext d d' → Takes d'.unread v byte → w ≡ word_of_byte byte → ((b : Beside) → set_word (state_of (stepped e) b) a w ≡ goes (state_of f b)) → Advances does e f d (record d' { unread = v }) None
+got_char does e f d d' v byte a w is some next takes word set =
+    record {
+      read = next.read;
+      written = [];
+      moves = record { was_left = next.moves.was_left; knows_end = λ h. next.moves.knows_end (sym takes.0 ∙ h); ended = λ h. let m = next.moves.ended h in (m.0, takes.0 ∙ m.1); read_quiet = next.moves.read_quiet; sent = next.moves.sent; write_quiet = next.moves.write_quiet };
+      same = same;
+    }
+  where
+    same : (input_end : InputEnd) (more : List ℕ) (b : Beside) → CanFollow v more input_end → does input_end (reading e (d.unread.bytes ++ (next.read ++ more)) b) ≡ goes (state_of f (having_written (v.bytes ++ more) [] b))
+    same input_end more b can =
+        let input : d.unread.bytes ++ (next.read ++ more) ≡ d'.unread.bytes ++ more = sym (append_assoc d.unread.bytes next.read more) ∙ ap (λ xs. xs ++ more) next.joined in
+        is input_end (reading e (d.unread.bytes ++ (next.read ++ more)) b)
+        ∙ ticked_once e.steps (reading e (d.unread.bytes ++ (next.read ++ more)) b) (λ t. get_char input_end t.input a t) some
+        ∙ ap (λ xs. get_char input_end xs a (reading (stepped e) xs b)) input
+        ∙ taken_is d'.unread v byte (stepped e) a input_end more b takes next.ended can
+        ∙ ap (set_word (reading (stepped e) (v.bytes ++ more) b) a) (sym word)
+        ∙ set (record b { input = v.bytes ++ more })
+        ∙ ap goes (nothing_written f (v.bytes ++ more) b)
+
+-- an instruction that is told by another definition of it
+pub answers_as : (does told : InputEnd → State → Next) (e f : Execution) (d d' : Devices) (answer : Result (Option Ending) Fault) → ((input_end : InputEnd) (input : List ℕ) (b : Beside) → told input_end (reading e input b) ≡ does input_end (reading e input b)) → Answers does e f d d' answer → Answers told e f d d' answer
+answers_as does told e f d d' (Ok answer) told_is a =
+    record {
+      read = a.read;
+      written = a.written;
+      moves = a.moves;
+      same = λ input_end more b can. subst (λ x. Is answer x f (having_written (d'.unread.bytes ++ more) a.written b)) (sym (told_is input_end (d.unread.bytes ++ (a.read ++ more)) b)) (a.same input_end more b can);
+    }
+answers_as does told e f d d' (Err Read) told_is a = record { none = a.none; more = a.more; refill = a.refill; same = λ b. told_is failed [] b ∙ a.same b }
+answers_as does told e f d d' (Err Write) told_is a = a
+
+-- an instruction that needs no device
+pub done_advances : (does : InputEnd → State → Next) (e f : Execution) (d : Devices) (answer : Option Ending) → KnowsEnd d.unread d.left → ((input_end : InputEnd) (b : Beside) → Is answer (does input_end (state_of e b)) f b) → Advances does e f d d answer
+done_advances does e f d answer knows is =
+    record {
+      read = [];
+      written = [];
+      moves = still d knows;
+      same = λ input_end more b can.
+          subst (λ output. Is answer (does input_end (reading e (d.unread.bytes ++ more) b)) f (record b { input = d.unread.bytes ++ more; output = output })) (sym (append-nil b.output))
+          (is input_end (record b { input = d.unread.bytes ++ more }));
+    }
+
+-- an instruction that writes
+put_moves : (d : Devices) (byte : ℕ) (pending : List ℕ) → KnowsEnd d.unread d.left → pending ≡ d.pending ++ byte ∷ [] → Moves d (record d { pending = pending }) [] (byte ∷ [])
+put_moves d byte pending knows is =
+    let s = still d knows in
+    record { was_left = s.was_left; knows_end = knows; ended = s.ended; read_quiet = refl; sent = record { sent = []; took = sym (append_known-nil d.taken); tallied = sym (tally_known-nil d.tally); rest = is }; write_quiet = refl }
+
+pub put_advances : (does : InputEnd → State → Next) (e f : Execution) (d : Devices) (pending : List ℕ) (answer : Option Ending) → KnowsEnd d.unread d.left → ((input_end : InputEnd) (b : Beside) → Puts answer d.pending pending (does input_end (state_of e b)) f b) → Advances does e f d (record d { pending = pending }) answer
+put_advances does e f d pending None knows puts =
+    let p = puts closed none in
+    record {
+      read = [];
+      written = p.0 ∷ [];
+      moves = put_moves d p.0 pending knows p.1;
+      same = λ input_end more b can. same input_end more b;
+    }
+  where
+    none : Beside
+    none = record { input = []; output = []; events = []; cycle_place = 0 }
+
+    byte_same : (x y : ℕ) → pending ≡ d.pending ++ x ∷ [] → pending ≡ d.pending ++ y ∷ [] → x ≡ y
+    byte_same x y p q = let same : x ∷ [] ≡ y ∷ [] = append_cancel_left d.pending (x ∷ []) (y ∷ []) (sym p ∙ q) in cc
+
+    same : (input_end : InputEnd) (more : List ℕ) (b : Beside) → does input_end (reading e (d.unread.bytes ++ more) b) ≡ goes (state_of f (having_written (d.unread.bytes ++ more) ((puts closed none).0 ∷ []) b))
+    same input_end more b =
+        let p = puts input_end (record b { input = d.unread.bytes ++ more }) in
+        p.2 ∙ ap (λ x. goes (state_of f (having_written (d.unread.bytes ++ more) (x ∷ []) b))) (byte_same p.0 (puts closed none).0 p.1 (puts closed none).1)
+put_advances does e f d pending (Some ending) knows puts =
+    let p = puts closed (record { input = []; output = []; events = []; cycle_place = 0 }) in
+    subst (λ xs. Advances does e f d (record d { pending = xs }) (Some ending)) (sym p.0)
+    (done_advances does e f d (Some ending) knows (λ input_end b. (puts input_end b).1))

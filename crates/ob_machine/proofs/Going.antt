@@ -1,0 +1,195 @@
+-- A run that goes on, instruction by instruction, and where it ends.
+use Rattle.std.proofs.Common.{◌≡◌, ℕ, zero, suc, ◌+◌, ◌-◌, ◌*◌, ◌<◌, ◌≤◌, ◌^◌, Bool, true, List, [], ◌∷◌, ◌++◌, length, Option, Some, None, Result, Ok, Err, slice_get, refl, sym, ap, ◌∙◌, subst, arith, append_assoc}
+use Rattle.std.specs.Io.KnownBytes.{append_known, prepend_known, IsAtEnd}
+use Rattle.std.proofs.lemmas.List.{append-nil}
+use Rattle.ob_base.specs.Faults.{Rose}
+use Rattle.ob_base.specs.Sink.{Tally, TakesPrefix, tally_known}
+use Rattle.ob_base.proofs.Appending.{append_known-nil, tally_known-nil}
+use Rattle.ob_model.specs.declared.endings.Ending.{Ending}
+use Rattle.ob_model.specs.declared.endings.Ending.TheVariants.{ReadFault, Spent}
+use Rattle.ob_model.specs.declared.settings.Mode.TheVariants.{Oblivious}
+use Rattle.ob_model.specs.declared.settings.RunSettings.{RunSettings}
+use Rattle.ob_model.specs.Endings.{Begins, InputEnd, closed, failed}
+use Rattle.ob_code.specs.declared.image.Image.{Image}
+use Rattle.ob_code.specs.Machine.{after, counted, runs, step}
+use Rattle.ob_code.specs.Rules.{IsVerified}
+use Rattle.ob_code.specs.State.{Final, Next, State, goes, stops}
+use Rattle.ob_space.specs.Loaded.{Loaded}
+use Rattle.ob_machine.specs.declared.execution.Execution.{Execution}
+use Rattle.ob_machine.specs.declared.ports.Fault.{Fault}
+use Rattle.ob_machine.specs.declared.ports.Fault.TheVariants.{Read, Write}
+use Rattle.ob_machine.specs.Buffers.{Unread}
+use Rattle.ob_machine.specs.Effects.{IsReady}
+use Rattle.ob_machine.specs.Exchanges.{Advances, Answers, CanFollow, Devices, FailsToRead, FailsToWrite, KnowsEnd, Moves, RunAnswers, RunEnds, RunFailsToRead, RunFailsToWrite, begun, having_written, reading}
+use Rattle.ob_machine.specs.Executions.{Beside, Is, SameRows, setup, state_of}
+use Rattle.ob_machine.specs.Output.{SentOrPending}
+use Rattle.ob_machine.proofs.Exchanged.{nothing_written, still}
+use Rattle.ob_machine.proofs.Interpreted.{flush_prefix, sent_then}
+use Rattle.ob_machine.proofs.Reached.{step_placed}
+use Rattle.ob_machine.proofs.WholeRuns.{runs_count, runs_follow}
+use Rattle.ob_machine.proofs.Stepped.{does}
+use Rattle.ob_machine.proofs.Tells as tells
+
+prepend-then : (known : Option (List ℕ)) (xs ys : List ℕ) → prepend_known xs (prepend_known ys known) ≡ prepend_known (xs ++ ys) known
+prepend-then None xs ys = refl
+prepend-then (Some zs) xs ys = ap Some (sym (append_assoc xs ys zs))
+
+-- one exchange after another
+pub moves_then : (d e f : Devices) (read written read' written' : List ℕ) → Moves d e read written → Moves e f read' written' → Moves d f (read ++ read') (written ++ written')
+moves_then d e f read written read' written' p q =
+    record {
+      was_left = p.was_left ∙ ap (prepend_known read) q.was_left ∙ prepend-then f.left read read';
+      knows_end = q.knows_end;
+      ended = λ h. let a = p.ended h in let b = q.ended a.1 in ((λ i. a.0 i ++ b.0 i), b.1);
+      read_quiet = q.read_quiet ∙ p.read_quiet;
+      sent = subst (λ bytes. SentOrPending d.taken f.taken d.tally f.tally f.pending bytes) (append_assoc d.pending written written') (sent_then d.taken e.taken f.taken d.tally e.tally f.tally e.pending f.pending (d.pending ++ written) written' p.sent q.sent);
+      write_quiet = q.write_quiet ∙ p.write_quiet;
+    }
+
+-- what can come after an exchange, with what was read in it, can come before it
+can_before : (d d' : Devices) (read written more : List ℕ) (input_end : InputEnd) → Moves d d' read written → CanFollow d'.unread more input_end → CanFollow d.unread (read ++ more) input_end
+can_before d d' read written more input_end m can = λ h. let a = m.ended h in let b = can a.1 in ((λ i. a.0 i ++ b.0 i), b.1)
+
+module _ (image : Image) (settings : RunSettings) (cycle : List ℕ) where
+  abbrev run : ℕ → InputEnd → State → Final
+  run n input_end s = runs (setup image settings cycle input_end) n s
+
+  -- the run from one state on is what is left of the run from another
+  pub record Going (limit n : ℕ) (e f : Execution) (d d' : Devices) : Type 0 where
+    pub read : List ℕ
+    pub written : List ℕ
+    pub moves : Moves d d' read written
+    pub same : (input_end : InputEnd) (more : List ℕ) (b : Beside) → CanFollow d'.unread more input_end → run limit input_end (reading e (d.unread.bytes ++ (read ++ more)) b) ≡ run n input_end (state_of f (having_written (d'.unread.bytes ++ more) written b))
+
+  pub going_first : (limit : ℕ) (e : Execution) (d : Devices) → KnowsEnd d.unread d.left → Going limit limit e e d d
+  going_first limit e d knows =
+      record { read = []; written = []; moves = still d knows; same = λ input_end more b can. ap (run limit input_end) (nothing_written e (d.unread.bytes ++ more) b) }
+
+  -- the output of two steps
+  written_then : (f : Execution) (input written written' : List ℕ) (b : Beside) → state_of f (having_written input written' (having_written input written b)) ≡ state_of f (having_written input (written ++ written') b)
+  written_then f input written written' b = ap (λ output. state_of f (record b { input = input; output = output })) (append_assoc b.output written written')
+
+  -- the run before an instruction, on what was read until after it
+  before_step : (limit n : ℕ) (e f h : Execution) (d d' d'' : Devices) (answer : Option Ending) (g : Going limit (suc n) e f d d') (a : Advances (does image settings cycle) (begun f) h d' d'' answer) (input_end : InputEnd) (more : List ℕ) (b : Beside) → CanFollow d''.unread more input_end → run limit input_end (reading e (d.unread.bytes ++ ((g.read ++ a.read) ++ more)) b) ≡ after (does image settings cycle input_end (reading (begun f) (d'.unread.bytes ++ (a.read ++ more)) (having_written (d'.unread.bytes ++ (a.read ++ more)) g.written b))) (run n input_end)
+  before_step limit n e f h d d' d'' answer g a input_end more b can =
+      ap (λ xs. run limit input_end (reading e (d.unread.bytes ++ xs) b)) (append_assoc g.read a.read more)
+      ∙ g.same input_end (a.read ++ more) b (can_before d' d'' a.read a.written more input_end a.moves can)
+
+  pub going_on : (limit n : ℕ) (e f h : Execution) (d d' d'' : Devices) → Going limit (suc n) e f d d' → Advances (does image settings cycle) (begun f) h d' d'' None → Going limit n e h d d''
+  going_on limit n e f h d d' d'' g a =
+      record {
+        read = g.read ++ a.read;
+        written = g.written ++ a.written;
+        moves = moves_then d d' d'' g.read g.written a.read a.written g.moves a.moves;
+        same = λ input_end more b can.
+            before_step limit n e f h d d' d'' None g a input_end more b can
+            ∙ ap (λ x. after x (run n input_end)) (a.same input_end more (having_written (d'.unread.bytes ++ (a.read ++ more)) g.written b) can)
+            ∙ ap (run n input_end) (written_then h (d''.unread.bytes ++ more) g.written a.written b);
+      }
+
+  pub going_end : (limit n : ℕ) (e f h : Execution) (d d' d'' : Devices) (ending : Ending) → Going limit (suc n) e f d d' → Advances (does image settings cycle) (begun f) h d' d'' (Some ending) → RunEnds (run limit) e h d d'' ending
+  going_end limit n e f h d d' d'' ending g a =
+      record {
+        read = g.read ++ a.read;
+        written = g.written ++ a.written;
+        moves = moves_then d d' d'' g.read g.written a.read a.written g.moves a.moves;
+        same = λ input_end more b can.
+            before_step limit n e f h d d' d'' (Some ending) g a input_end more b can
+            ∙ ap (λ x. after x (run n input_end)) (a.same input_end more (having_written (d'.unread.bytes ++ (a.read ++ more)) g.written b) can)
+            ∙ (λ i. record { ending = ending; state = written_then h (d''.unread.bytes ++ more) g.written a.written b i });
+      }
+
+  pub going_spent : (limit : ℕ) (e f : Execution) (d d' : Devices) → Going limit 0 e f d d' → RunEnds (run limit) e f d d' Spent
+  going_spent limit e f d d' g = record { read = g.read; written = g.written; moves = g.moves; same = g.same }
+
+  -- the source failed
+  pub going_read : (limit n : ℕ) (e f h : Execution) (d d' d'' : Devices) → Going limit (suc n) e f d d' → FailsToRead (does image settings cycle) (begun f) h d' d'' → RunFailsToRead (run limit) e h d d''
+  going_read limit n e f h d d' d'' g a =
+      record {
+        read = g.read;
+        written = g.written;
+        was_left = g.moves.was_left ∙ ap (prepend_known g.read) (sym a.refill.left);
+        cause = subst (λ k. Rose k d''.read_faults) g.moves.read_quiet a.refill.cause;
+        sent = subst (λ bytes. SentOrPending d.taken d''.taken d.tally d''.tally [] bytes) (append-nil (d.pending ++ g.written)) (sent_then d.taken d'.taken d''.taken d.tally d'.tally d''.tally d'.pending [] (d.pending ++ g.written) [] g.moves.sent (subst (λ bytes. SentOrPending d'.taken d''.taken d'.tally d''.tally [] bytes) (sym (append-nil d'.pending)) a.refill.sent));
+        nothing_pending = a.refill.nothing_pending;
+        write_quiet = a.refill.write_quiet ∙ g.moves.write_quiet;
+        same = λ b.
+            ap (λ xs. run limit failed (reading e (d.unread.bytes ++ xs) b)) (sym (append-nil g.read))
+            ∙ g.same failed [] b (not_ended b)
+            ∙ ap (λ xs. run (suc n) failed (state_of f (having_written xs g.written b))) (append-nil d'.unread.bytes ∙ a.none)
+            ∙ ap (λ x. after x (run n failed)) (a.same (having_written [] g.written b));
+      }
+    where
+      not_ended : (b : Beside) → CanFollow d'.unread [] failed
+      not_ended b ended = absurd (cc (a.more, ended))
+
+  -- the sink failed at what was pending
+  pub going_write : (limit n : ℕ) (e f h : Execution) (d d' d'' : Devices) → Going limit n e f d d' → TakesPrefix d'.taken d''.taken d'.tally d''.tally d'.pending → Rose d'.write_faults d''.write_faults → d''.left ≡ d'.left → d''.read_faults ≡ d'.read_faults → ((input_end : InputEnd) (s : State) → s.instructions ≡ f.instructions → h.instructions ≤ (run n input_end s).state.instructions) → RunFailsToWrite (run limit) e h d d''
+  going_write limit n e f h d d' d'' g took cause left quiet count =
+      record {
+        read = g.read;
+        written = g.written;
+        was_left = g.moves.was_left ∙ ap (prepend_known g.read) (sym left);
+        read_quiet = quiet ∙ g.moves.read_quiet;
+        took = flush_prefix d.taken d'.taken d''.taken d.tally d'.tally d''.tally d'.pending (d.pending ++ g.written) g.moves.sent took;
+        cause = subst (λ k. Rose k d''.write_faults) g.moves.write_quiet cause;
+        last = d'.unread;
+        knows_end = λ ended. subst (λ known. IsAtEnd known) (sym left) (g.moves.knows_end ended);
+        begins = λ input_end more b can.
+            subst (λ x. Begins (b.output ++ g.written) x.state.output) (sym (g.same input_end more b can))
+            (runs_follow (setup image settings cycle input_end) n (state_of f (having_written (d'.unread.bytes ++ more) g.written b))).output;
+        instructions = λ input_end more b can.
+            subst (λ x. h.instructions ≤ x.state.instructions) (sym (g.same input_end more b can))
+            (count input_end (state_of f (having_written (d'.unread.bytes ++ more) g.written b)) refl);
+      }
+
+  pub counts_one : (n : ℕ) (f h : Execution) → h.instructions ≡ f.instructions + 1 → (input_end : InputEnd) (s : State) → s.instructions ≡ f.instructions → h.instructions ≤ (run (suc n) input_end s).state.instructions
+  counts_one n f h is input_end s same = omega (arith, runs_count (setup image settings cycle input_end) n s)
+
+  pub counts_none : (n : ℕ) (f : Execution) → (input_end : InputEnd) (s : State) → s.instructions ≡ f.instructions → f.instructions ≤ (run n input_end s).state.instructions
+  counts_none n f input_end s same = omega (arith, (runs_follow (setup image settings cycle input_end) n s).instructions)
+
+  -- what was pending was sent
+  pub going_sent : (limit n : ℕ) (e f : Execution) (d d' : Devices) (taken : Option (List ℕ)) (tally : Option Tally) (faults : ℕ) → Going limit n e f d d' → taken ≡ append_known d'.taken d'.pending → tally ≡ tally_known d'.tally d'.pending → faults ≡ d'.write_faults → Going limit n e f d (record d' { pending = []; taken = taken; tally = tally; write_faults = faults })
+  going_sent limit n e f d d' taken tally faults g took tallied quiet =
+      record {
+        read = g.read;
+        written = g.written;
+        moves = record {
+          was_left = g.moves.was_left;
+          knows_end = g.moves.knows_end;
+          ended = g.moves.ended;
+          read_quiet = g.moves.read_quiet;
+          sent = subst (λ bytes. SentOrPending d.taken taken d.tally tally [] bytes) (append-nil (d.pending ++ g.written))
+              (sent_then d.taken d'.taken taken d.tally d'.tally tally d'.pending [] (d.pending ++ g.written) [] g.moves.sent
+              (record { sent = d'.pending; took = took; tallied = tallied; rest = refl }));
+          write_quiet = quiet ∙ g.moves.write_quiet;
+        };
+        same = g.same;
+      }
+
+pub rows_then : (r s t : Loaded) → SameRows r s → SameRows s t → SameRows r t
+rows_then r s t p q =
+    record { statics = q.statics ∙ p.statics; pointers = q.pointers ∙ p.pointers; functions = q.functions ∙ p.functions; settings = q.settings ∙ p.settings }
+
+-- ---- a run stays ready
+
+pub any_settings : RunSettings
+any_settings = record { mode = Oblivious; store = 1; away = 0; heap = 0 }
+
+pub none_beside : Beside
+none_beside = record { input = []; output = []; events = []; cycle_place = 0 }
+
+-- the state that an instruction goes on to
+stepped_to : (image : Image) (f h : Execution) (d' d'' : Devices) (a : Advances (does image any_settings []) (begun f) h d' d'' None) → step (setup image any_settings [] closed) (reading f (d'.unread.bytes ++ (a.read ++ [])) none_beside) ≡ goes (state_of h (having_written (d''.unread.bytes ++ []) a.written none_beside))
+stepped_to image f h d' d'' a = a.same closed [] none_beside (λ ended. (refl, refl))
+
+pub ready_on : (image : Image) (f h : Execution) (d' d'' : Devices) → IsVerified image → IsReady image f → Advances (does image any_settings []) (begun f) h d' d'' None → SameRows f.space h.space → IsReady image h
+ready_on image f h d' d'' v ready a rows =
+    let stays = step_placed (setup image any_settings [] closed) (reading f (d'.unread.bytes ++ (a.read ++ [])) none_beside) (state_of h (having_written (d''.unread.bytes ++ []) a.written none_beside)) v ready.placed (stepped_to image f h d' d'' a) in
+    record { rows = rows.functions ∙ ready.rows; placed = stays.placed; numbered = omega (arith, stays.numbered, ready.numbered) }
+
+pub counted_on : (image : Image) (f h : Execution) (d' d'' : Devices) → Advances (does image any_settings []) (begun f) h d' d'' None → h.instructions ≡ f.instructions + 1
+counted_on image f h d' d'' a =
+    let s = reading f (d'.unread.bytes ++ (a.read ++ [])) none_beside in
+    (subst (tells.Tells closed (counted s)) (stepped_to image f h d' d'' a) (tells.act_on (setup image any_settings [] closed) (slice_get image.code f.counter) (counted s))).instructions

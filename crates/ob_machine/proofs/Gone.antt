@@ -1,0 +1,103 @@
+-- Where the loop of a run comes to, turn by turn, and how a run starts.
+use Rattle.std.proofs.Common.{◌≡◌, ℕ, zero, suc, ◌+◌, ◌-◌, ◌*◌, ◌<◌, ◌≤◌, ◌^◌, List, [], ◌++◌, length, Option, Some, None, Result, Ok, Err, refl, sym, ap, ◌∙◌, subst, arith}
+use Rattle.std.specs.Prelude.{IfNone}
+use Rattle.ob_base.specs.Faults.{Rose}
+use Rattle.ob_base.specs.Sink.{TakesPrefix}
+use Rattle.ob_model.specs.declared.endings.Ending.{Ending}
+use Rattle.ob_model.specs.declared.settings.RunSettings.{RunSettings}
+use Rattle.ob_model.specs.Endings.{Begins, InputEnd, failed}
+use Rattle.ob_code.specs.declared.image.Image.{Image}
+use Rattle.ob_code.specs.Machine.{after, runs}
+use Rattle.ob_code.specs.Rules.{IsVerified}
+use Rattle.ob_code.specs.Start.{started}
+use Rattle.ob_code.specs.State.{Final, State, goes, stops}
+use Rattle.ob_machine.specs.declared.execution.Execution.{Execution}
+use Rattle.ob_machine.specs.declared.ports.Fault.{Fault}
+use Rattle.ob_machine.specs.declared.ports.Fault.TheVariants.{Read, Write}
+use Rattle.ob_machine.specs.Effects.{IsReady}
+use Rattle.ob_machine.specs.Exchanges.{Advances, Answers, Devices, KnowsEnd, RunAnswers, RunEnds, RunFailsToWrite, begun, having_written, reading}
+use Rattle.ob_machine.specs.Executions.{Beside, Is, SameRows, setup, state_of}
+use Rattle.ob_machine.proofs.Exchanged.{nothing_written, still}
+use Rattle.ob_machine.proofs.Going.{Going, counts_none, counts_one, going_end, going_on, going_read, going_write, none_beside}
+use Rattle.ob_machine.proofs.Reached.{start_placed}
+use Rattle.ob_machine.proofs.Stepped.{does}
+
+-- the run from a state, of so many instructions at most
+abbrev pub run_of : Image → RunSettings → List ℕ → ℕ → InputEnd → State → Final
+run_of image settings cycle n input_end s = runs (setup image settings cycle input_end) n s
+
+module _ (image : Image) (settings : RunSettings) (cycle : List ℕ) where
+  earlier : (limit m : ℕ) (e f : Execution) (d d' : Devices) → 0 < m → Going image settings cycle limit m e f d d' → Going image settings cycle limit (suc (m - 1)) e f d d'
+  earlier limit m e f d d' some g = let is : m ≡ suc (m - 1) = omega arith in subst (λ k. Going image settings cycle limit k e f d d') is g
+
+  pub turn_on : (limit m : ℕ) (e f h : Execution) (d d' d'' : Devices) → 0 < m → Going image settings cycle limit m e f d d' → Advances (does image settings cycle) (begun f) h d' d'' None → Going image settings cycle limit (m - 1) e h d d''
+  turn_on limit m e f h d d' d'' some g a = going_on image settings cycle limit (m - 1) e f h d d' d'' (earlier limit m e f d d' some g) a
+
+  pub turn_end : (limit m : ℕ) (e f h : Execution) (d d' d'' : Devices) (ending : Ending) → 0 < m → Going image settings cycle limit m e f d d' → Advances (does image settings cycle) (begun f) h d' d'' (Some ending) → RunEnds (run_of image settings cycle limit) e h d d'' ending
+  turn_end limit m e f h d d' d'' ending some g a = going_end image settings cycle limit (m - 1) e f h d d' d'' ending (earlier limit m e f d d' some g) a
+
+  pub turn_fault : (limit m : ℕ) (e f h : Execution) (d d' d'' : Devices) (fault : Fault) → 0 < m → Going image settings cycle limit m e f d d' → Answers (does image settings cycle) (begun f) h d' d'' (Err fault) → RunAnswers (run_of image settings cycle limit) e h d d'' (Err fault)
+  turn_fault limit m e f h d d' d'' Read some g a = going_read image settings cycle limit (m - 1) e f h d d' d'' (earlier limit m e f d d' some g) a
+  turn_fault limit m e f h d d' d'' Write some g a =
+      going_write image settings cycle limit (suc (m - 1)) e f h d d' d'' (earlier limit m e f d d' some g) a.refill.took a.refill.cause a.refill.left a.refill.read_quiet
+      (counts_one image settings cycle (m - 1) f h a.instructions)
+
+  pub turn_cut : (limit m : ℕ) (e f : Execution) (d d' d'' : Devices) → Going image settings cycle limit m e f d d' → TakesPrefix d'.taken d''.taken d'.tally d''.tally d'.pending → Rose d'.write_faults d''.write_faults → d''.left ≡ d'.left → d''.read_faults ≡ d'.read_faults → RunFailsToWrite (run_of image settings cycle limit) e f d d''
+  turn_cut limit m e f d d' d'' g took cause left quiet =
+      going_write image settings cycle limit m e f f d d' d'' g took cause left quiet (counts_none image settings cycle m f)
+
+  -- the run that starts so
+  abbrev pub whole : ℕ → InputEnd → State → Final
+  whole limit input_end s = after (started image s) (run_of image settings cycle limit input_end)
+
+  pub run_stopped : (limit : ℕ) (e f : Execution) (d : Devices) (ending : Ending) → KnowsEnd d.unread d.left → ((r : Beside) → started image (state_of e r) ≡ stops ending (state_of f r)) → RunEnds (whole limit) e f d d ending
+  run_stopped limit e f d ending knows stopped =
+      record {
+        read = [];
+        written = [];
+        moves = still d knows;
+        same = λ input_end more b can.
+            ap (λ x. after x (run_of image settings cycle limit input_end)) (stopped (record b { input = d.unread.bytes ++ more }))
+            ∙ (λ i. record { ending = ending; state = nothing_written f (d.unread.bytes ++ more) b i });
+      }
+
+  pub run_started : (limit : ℕ) (e f h : Execution) (d d' : Devices) (answer : Result Ending Fault) → ((r : Beside) → started image (state_of e r) ≡ goes (state_of f r)) → RunAnswers (run_of image settings cycle limit) f h d d' answer → RunAnswers (whole limit) e h d d' answer
+  run_started limit e f h d d' (Ok ending) starts a =
+      record {
+        read = a.read;
+        written = a.written;
+        moves = a.moves;
+        same = λ input_end more b can.
+            ap (λ x. after x (run_of image settings cycle limit input_end)) (starts (record b { input = d.unread.bytes ++ (a.read ++ more) })) ∙ a.same input_end more b can;
+      }
+  run_started limit e f h d d' (Err Read) starts a =
+      record {
+        read = a.read;
+        written = a.written;
+        was_left = a.was_left;
+        cause = a.cause;
+        sent = a.sent;
+        nothing_pending = a.nothing_pending;
+        write_quiet = a.write_quiet;
+        same = λ b. ap (λ x. after x (run_of image settings cycle limit failed)) (starts (record b { input = d.unread.bytes ++ a.read })) ∙ a.same b;
+      }
+  run_started limit e f h d d' (Err Write) starts a =
+      let begins = λ (input_end : InputEnd) (input : List ℕ) (b : Beside). ap (λ x. after x (run_of image settings cycle limit input_end)) (starts (record b { input = input })) in
+      record {
+        read = a.read;
+        written = a.written;
+        was_left = a.was_left;
+        read_quiet = a.read_quiet;
+        took = a.took;
+        cause = a.cause;
+        last = a.last;
+        knows_end = a.knows_end;
+        begins = λ input_end more b can. subst (λ x. Begins (b.output ++ a.written) x.state.output) (sym (begins input_end (d.unread.bytes ++ (a.read ++ more)) b)) (a.begins input_end more b can);
+        instructions = λ input_end more b can. subst (λ x. h.instructions ≤ x.state.instructions) (sym (begins input_end (d.unread.bytes ++ (a.read ++ more)) b)) (a.instructions input_end more b can);
+      }
+
+pub ready_start : (image : Image) (e f : Execution) (answer : Option Ending) → IsVerified image → e.space.functions ≡ image.functions → e.space.space.calls ≡ [] → e.space.space.next + 524288 * e.steps < 2 ^ 62 → SameRows e.space f.space → ((r : Beside) → Is answer (started image (state_of e r)) f r) → IfNone answer (IsReady image f)
+ready_start image e f None v rows none numbered same starts =
+    let stays = start_placed image (state_of e none_beside) (state_of f none_beside) v none (starts none_beside) in
+    record { rows = same.functions ∙ rows; placed = stays.placed; numbered = omega (arith, stays.numbered, numbered) }
+ready_start image e f (Some ending) v rows none numbered same starts = tt

@@ -1,0 +1,121 @@
+-- What a machine's run gives, from what its execution comes to.
+use Rattle.std.proofs.Common.{◌≡◌, ℕ, ◌+◌, ◌*◌, ◌<◌, ◌≤◌, ◌^◌, ◌⊎◌, Bool, false, List, [], ◌∷◌, length, refl, sym, ap, ◌∙◌, subst, arith, inl, inr}
+use Rattle.ob_base.specs.Faults.{Rose}
+use Rattle.ob_model.specs.declared.endings.Ending.{Ending}
+use Rattle.ob_model.specs.declared.endings.Ending.TheVariants.{NoMemory, ReadFault, Spent, WriteFault}
+use Rattle.ob_model.specs.declared.settings.RunSettings.{RunSettings}
+use Rattle.ob_model.specs.Endings.{InputEnd, closed, failed}
+use Rattle.ob_code.proofs.Counts.{bounded}
+use Rattle.ob_code.specs.declared.image.Image.{Image}
+use Rattle.ob_code.specs.Machine.{after, runs}
+use Rattle.ob_code.specs.Rules.{IsVerified}
+use Rattle.ob_code.specs.Start as start
+use Rattle.ob_code.specs.Start.{flat_final, laid_out, most_instructions, stack_bytes, started}
+use Rattle.ob_code.specs.State.{Final, State}
+use Rattle.ob_machine.specs.declared.execution.Execution.{Execution}
+use Rattle.ob_machine.specs.declared.ports.Ports.{Ports}
+use Rattle.ob_machine.specs.Devices.{IsInput, Reading, Writing}
+use Rattle.ob_machine.specs.Executions.{SameRows, setup, state_of}
+use Rattle.ob_machine.specs.Finished.{Broken, ComesOut, Ended, at_start}
+use Rattle.ob_machine.specs.Machines.{ComesTo, MachineState, RunsOn, used}
+use Rattle.ob_machine.specs.Wiring.{IsUnused}
+use Rattle.ob_machine.proofs.Reached.{first_next, no_calls}
+use Rattle.ob_machine.proofs.Tells.{CanEnd}
+use Rattle.ob_machine.proofs.WholeRuns.{run_follows}
+
+pub unused_calls : (image : Image) (e : Execution) (p : Ports) → IsUnused image e p → e.space.space.calls ≡ []
+unused_calls image e p u = ap (λ s. s.space.calls) u.space ∙ no_calls image.statics image.pointers e.space.settings
+
+pub unused_numbered : (image : Image) (e : Execution) (p : Ports) (steps : ℕ) → IsVerified image → IsUnused image e p → steps ≤ 1000000000 → e.space.space.next + 524288 * steps < 2 ^ 62
+unused_numbered image e p steps v u few =
+    let next : e.space.space.next ≡ length image.statics + 1 = ap (λ s. s.space.next) u.space ∙ first_next image.statics image.pointers e.space.settings in
+    omega (arith, v.statics.most)
+
+-- the execution, for so many steps
+abbrev pub given : Execution → ℕ → Execution
+given e steps = record e { steps = steps }
+
+starts_so : (image : Image) (e : Execution) (p : Ports) (steps place : ℕ) (input : List ℕ) → IsUnused image e p → state_of (given e steps) (at_start input place) ≡ start.fresh (laid_out stack_bytes image.statics image.pointers e.space.settings) place input steps
+starts_so image e p steps place input u =
+    λ i. record { space = (u.space i).space; counter = u.counter i; steps = steps; input = input; output = []; events = []; cycle_place = place; instructions = u.instructions i }
+
+-- the run of an execution
+abbrev pub run_of : Image → RunSettings → List ℕ → ℕ → InputEnd → State → Final
+run_of image settings cycle limit input_end s = after (started image s) (runs (setup image settings cycle input_end) limit)
+
+final_is : (image : Image) (e : Execution) (p : Ports) (steps limit place : ℕ) (cycle input : List ℕ) (input_end : InputEnd) → IsUnused image e p → limit ≡ most_instructions image steps → run_of image e.space.settings cycle limit input_end (state_of (given e steps) (at_start input place)) ≡ flat_final image e.space.settings cycle place input input_end steps
+final_is image e p steps limit place cycle input input_end u is =
+    λ i. after (started image (starts_so image e p steps place input u i)) (runs (setup image e.space.settings cycle input_end) (is i))
+
+-- the machine with an execution
+abbrev pub machine_of : Image → Execution → Bool → MachineState
+machine_of image e fresh = record { image = image; settings = e.space.settings; space = e.space.space; is_fresh = fresh; instructions = e.instructions }
+
+abbrev pub machine_after : Image → Execution → MachineState
+machine_after image f = record { image = image; settings = f.space.settings; space = f.space.space; is_fresh = false; instructions = f.instructions }
+
+came_to : (image : Image) (e f : Execution) (fresh : Bool) (final : Final) (w : Writing) (answer : Ending) → f.space.settings ≡ e.space.settings → Ended final f w answer ⊎ Broken final f w answer → ComesTo final (machine_of image e fresh) (machine_after image f) answer w
+came_to image e f fresh final w answer same (inl h) =
+    inl (record {
+      ending = h.ending;
+      output = h.output;
+      machine = λ i. record { image = image; settings = same i; space = h.space i; is_fresh = false; instructions = h.instructions i };
+    })
+came_to image e f fresh final w answer same (inr h) =
+    inr (record {
+      ending = h.ending;
+      output = h.output;
+      machine = λ i. record { image = image; settings = same i; space = f.space.space; is_fresh = false; instructions = f.instructions };
+      instructions = h.instructions;
+    })
+
+pub runs_on : (image : Image) (e f : Execution) (p : Ports) (fresh : Bool) (cycle : List ℕ) (place steps limit : ℕ) (answer : Ending) (r : Reading) (w : Writing) → IsUnused image e p → limit ≡ most_instructions image steps → SameRows e.space f.space → ComesOut (run_of image e.space.settings cycle limit) (given e steps) f r w place answer → RunsOn (machine_of image e fresh) (machine_after image f) cycle place steps answer r w
+runs_on image e f p fresh cycle place steps limit answer r w u is rows out =
+    record {
+      input = out.input;
+      input_end = out.input_end;
+      is_input = out.is_input;
+      comes_to = came_to image e f fresh _ w answer rows.settings (subst (λ final. Ended final f w answer ⊎ Broken final f w answer) (final_is image e p steps limit place cycle out.input out.input_end u is) out.comes);
+    }
+
+module _ (m after' : MachineState) (cycle : List ℕ) (place steps : ℕ) (answer : Ending) (r : Reading) (w : Writing) (h : RunsOn m after' cycle place steps answer r w) where
+  abbrev final : Final
+  final = flat_final m.image m.settings cycle place h.input h.input_end steps
+
+  can_end : (final.ending ≡ Spent) ⊎ CanEnd h.input_end final.ending
+  can_end = (run_follows (record { image = m.image; settings = m.settings; cycle = cycle; input_end = h.input_end }) (laid_out stack_bytes m.image.statics m.image.pointers m.settings) place h.input steps).ending
+
+  cut_short : (input_end : InputEnd) → input_end ≡ failed → IsInput r h.input input_end → Rose r.faults_before r.faults_now
+  cut_short closed is input = cc
+  cut_short failed is input = input.cause
+
+  pub read_cause : answer ≡ ReadFault → Rose r.faults_before r.faults_now
+  read_cause is = by_coming h.comes_to can_end
+    where
+      by_coming : ComesTo final m after' answer w → (final.ending ≡ Spent) ⊎ CanEnd h.input_end final.ending → Rose r.faults_before r.faults_now
+      by_coming (inl d) (inl spent) = cc
+      by_coming (inl d) (inr can) = cut_short h.input_end (subst (CanEnd h.input_end) (sym d.ending ∙ is) can) h.is_input
+      by_coming (inr b) c = cc
+
+  pub write_cause : answer ≡ WriteFault → Rose w.faults_before w.faults_now
+  write_cause is = by_coming h.comes_to can_end
+    where
+      by_coming : ComesTo final m after' answer w → (final.ending ≡ Spent) ⊎ CanEnd h.input_end final.ending → Rose w.faults_before w.faults_now
+      by_coming (inl d) (inl spent) = cc
+      by_coming (inl d) (inr can) = absurd (subst (CanEnd h.input_end) (sym d.ending ∙ is) can)
+      by_coming (inr b) c = b.output.cause
+
+  pub no_memory : answer ≡ NoMemory → ⊥
+  no_memory is = by_coming h.comes_to can_end
+    where
+      by_coming : ComesTo final m after' answer w → (final.ending ≡ Spent) ⊎ CanEnd h.input_end final.ending → ⊥
+      by_coming (inl d) (inl spent) = cc
+      by_coming (inl d) (inr can) = subst (CanEnd h.input_end) (sym d.ending ∙ is) can
+      by_coming (inr b) c = cc
+
+  pub within_bound : after'.instructions ≤ most_instructions m.image steps
+  within_bound = by_coming h.comes_to (bounded (record { image = m.image; settings = m.settings; cycle = cycle; input_end = h.input_end }) (laid_out stack_bytes m.image.statics m.image.pointers m.settings) place h.input steps)
+    where
+      by_coming : ComesTo final m after' answer w → final.state.instructions ≤ most_instructions m.image steps → after'.instructions ≤ most_instructions m.image steps
+      by_coming (inl d) le = let same = ap (λ x. x.instructions) d.machine in omega (arith, same, le)
+      by_coming (inr b) le = omega (arith, b.instructions, le)

@@ -1,0 +1,148 @@
+-- What goes through the buffers while a run goes on, and where it fails at a device.
+use Rattle.std.specs.Prelude.{◌≡◌, ℕ, ◌+◌, ◌≤◌, true, false, List, [], ◌∷◌, ◌++◌, Option, Some, None, Result, Ok, Err}
+use Rattle.std.specs.Io.KnownBytes.{prepend_known, IsAtEnd}
+use Rattle.ob_base.specs.Faults.{Rose}
+use Rattle.ob_base.specs.Sink.{Tally, TakesPrefix}
+use Rattle.ob_model.specs.declared.endings.Ending.{Ending}
+use Rattle.ob_model.specs.declared.endings.Ending.TheVariants.{ReadFault}
+use Rattle.ob_model.specs.Endings.{Begins, InputEnd, closed, failed}
+use Rattle.ob_code.specs.State.{Final, Next, State, stops, goes}
+use Rattle.ob_machine.specs.declared.execution.Execution.{Execution}
+use Rattle.ob_machine.specs.declared.ports.Fault.{Fault}
+use Rattle.ob_machine.specs.declared.ports.Fault.TheVariants.{Read, Write}
+use Rattle.ob_machine.specs.declared.ports.Ports.{Ports}
+use Rattle.ob_machine.specs.Buffers.{IsFilled, Unread}
+use Rattle.ob_machine.specs.Executions.{Beside, Is, state_of}
+use Rattle.ob_machine.specs.Output.{SentOrPending}
+
+-- what the buffers hold, and what the source and the sink tell
+pub record Devices : Type 0 where
+  pub unread : Unread
+  pub pending : List ℕ
+  pub left : Option (List ℕ)
+  pub read_faults : ℕ
+  pub taken : Option (List ℕ)
+  pub tally : Option Tally
+  pub write_faults : ℕ
+
+abbrev pub devices : Ports → Option (List ℕ) → ℕ → Option (List ℕ) → Option Tally → ℕ → Devices
+devices p left read_faults taken tally write_faults =
+    record { unread = p.input; pending = p.output; left = left; read_faults = read_faults; taken = taken; tally = tally; write_faults = write_faults }
+
+-- where the end of the source was met, it has no more
+abbrev pub KnowsEnd : Unread → Option (List ℕ) → Type 0
+KnowsEnd u left = u.at_end ≡ true → IsAtEnd left
+
+-- what can still come from the source: after its end nothing
+abbrev pub CanFollow : Unread → List ℕ → InputEnd → Type 0
+CanFollow u more input_end = u.at_end ≡ true → (more ≡ []) × (input_end ≡ closed)
+
+-- bytes were read and written, and no device failed
+pub record Moves (d d' : Devices) (read written : List ℕ) : Type 0 where
+  pub was_left : d.left ≡ prepend_known read d'.left
+  pub knows_end : KnowsEnd d'.unread d'.left
+  pub ended : d.unread.at_end ≡ true → (read ≡ []) × (d'.unread.at_end ≡ true)
+  pub read_quiet : d'.read_faults ≡ d.read_faults
+  pub sent : SentOrPending d.taken d'.taken d.tally d'.tally d'.pending (d.pending ++ written)
+  pub write_quiet : d'.write_faults ≡ d.write_faults
+
+-- all that was pending was sent, and a read gave bytes or met the end
+pub record IsRefilled (d d' : Devices) : Type 0 where
+  pub moves : Moves d d' d'.unread.bytes []
+  pub filled : IsFilled d'.unread d'.left
+
+pub record RefillFailsToRead (d d' : Devices) : Type 0 where
+  pub left : d'.left ≡ d.left
+  pub cause : Rose d.read_faults d'.read_faults
+  pub sent : SentOrPending d.taken d'.taken d.tally d'.tally [] d.pending
+  pub nothing_pending : d'.pending ≡ []
+  pub write_quiet : d'.write_faults ≡ d.write_faults
+
+pub record RefillFailsToWrite (d d' : Devices) : Type 0 where
+  pub took : TakesPrefix d.taken d'.taken d.tally d'.tally d.pending
+  pub cause : Rose d.write_faults d'.write_faults
+  pub left : d'.left ≡ d.left
+  pub read_quiet : d'.read_faults ≡ d.read_faults
+
+abbrev pub Refills : Devices → Devices → Result (Unit {0}) Fault → Type 0
+Refills d d' (Ok _) = IsRefilled d d'
+Refills d d' (Err Read) = RefillFailsToRead d d'
+Refills d d' (Err Write) = RefillFailsToWrite d d'
+
+-- the state of a run with so many bytes of input before it, and after it has written some bytes
+abbrev pub reading : Execution → List ℕ → Beside → State
+reading e input b = state_of e (record b { input = input })
+
+abbrev pub having_written : List ℕ → List ℕ → Beside → Beside
+having_written input written b = record b { input = input; output = b.output ++ written }
+
+-- an instruction counts once it is begun
+abbrev pub begun : Execution → Execution
+begun e = record e { instructions = e.instructions + 1 }
+
+-- ---- one instruction, as a definition says what it does on an input that ends so
+
+-- it was done, whatever more will come
+pub record Advances (does : InputEnd → State → Next) (e f : Execution) (d d' : Devices) (answer : Option Ending) : Type 0 where
+  pub read : List ℕ
+  pub written : List ℕ
+  pub moves : Moves d d' read written
+  pub same : (input_end : InputEnd) (more : List ℕ) (b : Beside) → CanFollow d'.unread more input_end → Is answer (does input_end (reading e (d.unread.bytes ++ (read ++ more)) b)) f (having_written (d'.unread.bytes ++ more) written b)
+
+-- the source failed when all that it gave before was taken, and all that was written had been sent
+pub record FailsToRead (does : InputEnd → State → Next) (e f : Execution) (d d' : Devices) : Type 0 where
+  pub none : d.unread.bytes ≡ []
+  pub more : d.unread.at_end ≡ false
+  pub refill : RefillFailsToRead d d'
+  pub same : (b : Beside) → does failed (reading e [] b) ≡ stops ReadFault (reading f [] b)
+
+-- the sink failed, having taken a prefix of what was pending
+pub record FailsToWrite (e f : Execution) (d d' : Devices) : Type 0 where
+  pub refill : RefillFailsToWrite d d'
+  pub instructions : f.instructions ≡ e.instructions
+
+abbrev pub Answers : (InputEnd → State → Next) → Execution → Execution → Devices → Devices → Result (Option Ending) Fault → Type 0
+Answers does e f d d' (Ok answer) = Advances does e f d d' answer
+Answers does e f d d' (Err Read) = FailsToRead does e f d d'
+Answers does e f d d' (Err Write) = FailsToWrite e f d d'
+
+-- a byte of output was put, where the instruction was done
+abbrev pub Puts : Option Ending → List ℕ → List ℕ → Next → Execution → Beside → Type 0
+Puts None old new x e b = (byte : ℕ) × (new ≡ old ++ byte ∷ []) × (x ≡ goes (state_of e (record b { output = b.output ++ byte ∷ [] })))
+Puts (Some ending) old new x e b = (new ≡ old) × (x ≡ stops ending (state_of e b))
+
+-- ---- a whole run
+
+pub record RunEnds (run : InputEnd → State → Final) (e f : Execution) (d d' : Devices) (ending : Ending) : Type 0 where
+  pub read : List ℕ
+  pub written : List ℕ
+  pub moves : Moves d d' read written
+  pub same : (input_end : InputEnd) (more : List ℕ) (b : Beside) → CanFollow d'.unread more input_end → run input_end (reading e (d.unread.bytes ++ (read ++ more)) b) ≡ record { ending = ending; state = state_of f (having_written (d'.unread.bytes ++ more) written b) }
+
+pub record RunFailsToRead (run : InputEnd → State → Final) (e f : Execution) (d d' : Devices) : Type 0 where
+  pub read : List ℕ
+  pub written : List ℕ
+  pub was_left : d.left ≡ prepend_known read d'.left
+  pub cause : Rose d.read_faults d'.read_faults
+  pub sent : SentOrPending d.taken d'.taken d.tally d'.tally [] (d.pending ++ written)
+  pub nothing_pending : d'.pending ≡ []
+  pub write_quiet : d'.write_faults ≡ d.write_faults
+  pub same : (b : Beside) → run failed (reading e (d.unread.bytes ++ read) b) ≡ record { ending = ReadFault; state = state_of f (having_written [] written b) }
+
+-- the output until then is a prefix of the run's
+pub record RunFailsToWrite (run : InputEnd → State → Final) (e f : Execution) (d d' : Devices) : Type 0 where
+  pub read : List ℕ
+  pub written : List ℕ
+  pub was_left : d.left ≡ prepend_known read d'.left
+  pub read_quiet : d'.read_faults ≡ d.read_faults
+  pub took : TakesPrefix d.taken d'.taken d.tally d'.tally (d.pending ++ written)
+  pub cause : Rose d.write_faults d'.write_faults
+  pub last : Unread
+  pub knows_end : KnowsEnd last d'.left
+  pub begins : (input_end : InputEnd) (more : List ℕ) (b : Beside) → CanFollow last more input_end → Begins (b.output ++ written) (run input_end (reading e (d.unread.bytes ++ (read ++ more)) b)).state.output
+  pub instructions : (input_end : InputEnd) (more : List ℕ) (b : Beside) → CanFollow last more input_end → f.instructions ≤ (run input_end (reading e (d.unread.bytes ++ (read ++ more)) b)).state.instructions
+
+abbrev pub RunAnswers : (InputEnd → State → Final) → Execution → Execution → Devices → Devices → Result Ending Fault → Type 0
+RunAnswers run e f d d' (Ok ending) = RunEnds run e f d d' ending
+RunAnswers run e f d d' (Err Read) = RunFailsToRead run e f d d'
+RunAnswers run e f d d' (Err Write) = RunFailsToWrite run e f d d'

@@ -1,0 +1,136 @@
+ghost use Rattle.std.specs.Prelude.{◌≡◌, ◌≢◌, ◌≤◌, ◌*◌, ◌+◌, ◌<◌, IsTrue, IfOk, length, vec_capacity};
+ghost use Rattle.ob_base.specs.Faults.{Rose};
+ghost use Rattle.ob_model.specs.declared.endings.Ending.TheVariants as ending;
+ghost use Rattle.ob_model.specs.Settings.{IsFit};
+ghost use Rattle.ob_code.specs.Frames.{function_at};
+ghost use Rattle.ob_code.specs.Rules.{IsVerified};
+ghost use Rattle.ob_code.specs.Start.{most_instructions};
+ghost use Rattle.ob_code.specs.declared.image.FunctionRow.{FunctionRow};
+ghost use Rattle.std.specs.Prelude.{ℕ};
+ghost use Rattle.ob_machine.specs.Machines.{Runs, loaded};
+
+use crate::buffers::input::InputBuffer;
+use crate::buffers::output::OutputBuffer;
+use crate::execution::Execution;
+use crate::ports::{Fault, Ports};
+use ob_base::{NoMemory, Sink, Source};
+use ob_code::{FunctionRow, Verified};
+use ob_model::{Ending, RunSettings};
+use ob_space::Space;
+use std::alloc::Global;
+use std::marker::Model;
+
+/// A machine with an image in its memory. It is seen as the image, the settings, what its memory holds,
+/// whether it is fresh, and the number of instructions of its last run.
+#[derive(Drop)]
+pub struct Machine {
+    image: Verified,
+    execution: Execution,
+    ports: Ports,
+    fresh: bool,
+}
+
+impl Model for Machine {
+    ghost use Rattle.ob_machine.specs.Machines.{MachineState};
+
+    ghost Value = { MachineState };
+
+    ghost use Rattle.ob_machine.specs.Wiring.{IsWired};
+
+    ghost view = { λ m. record { image = m.image; settings = m.execution.space.settings; space = m.execution.space.space; is_fresh = m.fresh; instructions = m.execution.instructions } };
+
+    ghost invariant = { λ m. IsWired m.image m.execution m.ports m.fresh };
+}
+
+/// The most parameters that a function has.
+fn most_params(functions: &[FunctionRow]) -> u32
+    ensures { (f : ℕ) → f < length functions.now → (function_at functions.now f).params ≤ result }
+{
+    let mut most = 0;
+    for function in functions {
+        most = most.max(function.params);
+    }
+    most
+}
+
+impl Machine {
+    /// A fresh machine with an image: its memory is laid out, and no call is in progress. Takes all the
+    /// memory that the machine will ever take, and answers `NoMemory` where there is too little.
+    pub fn load(alloc: Global, v: Verified, settings: &RunSettings) -> Result<Machine, NoMemory>
+        requires { IsFit settings.now }
+        ensures { IfOk result (λ machine. machine ≡ loaded v settings.now) }
+    {
+        let space = Space::new(alloc, &v, settings)?;
+        let room = most_params(v.image().functions.as_slice());
+        Ok(Machine {
+            execution: Execution {
+                space,
+                counter: 0,
+                steps: 0,
+                instructions: 0,
+            },
+            ports: Ports {
+                input: InputBuffer::new(alloc)?,
+                output: OutputBuffer::new(alloc)?,
+                arguments: Vec::with_capacity(alloc, room as usize)?,
+            },
+            image: v,
+            fresh: true,
+        })
+    }
+
+    /// Whether nothing was run since the machine was loaded or reset. A fresh machine is as `load` gave
+    /// it.
+    pub fn is_fresh(&self) -> bool
+        ensures value { result ≡ self.now.is_fresh }
+        ensures fresh { IsTrue result → self.now ≡ loaded self.now.image self.now.settings }
+    {
+        self.fresh
+    }
+
+    /// How many instructions the last run did, the one that ended it included; 0 for a fresh machine.
+    pub fn instructions(&self) -> u64
+        ensures { result ≡ self.now.instructions }
+    {
+        self.execution.instructions
+    }
+
+    /// Makes the machine fresh, as `load` gave it. Takes no memory.
+    pub fn reset(&mut self)
+        ensures { self.new ≡ loaded self.old.image self.old.settings }
+    {
+        self.execution.space.clear();
+        self.execution.counter = 0;
+        self.execution.steps = 0;
+        self.execution.instructions = 0;
+        self.ports.input.clear();
+        self.ports.output.clear();
+        self.fresh = true;
+    }
+
+    /// Runs the image on the bytes of `input`, and gives its output to `out`; `steps` is at most 10^9, and
+    /// the machine is fresh. Afterwards it isn't. Takes no memory.
+    ///
+    /// Bytes are read up to 4,096 at a time, so that more may be read than the program took; after the end
+    /// of the input no read is made. Output is written in pieces of 4,096 bytes, before each read, and at
+    /// the end. Where a read fails, the run ends with `ReadFault` once the program took all that was read
+    /// before. Where a write fails, it ends with `WriteFault`, and `out` has taken a prefix of the output.
+    /// `Spent` comes exactly where `(instructions in the code + 1) * (steps + 1)` instructions were done
+    /// and none of them ended the run.
+    pub fn run<S: Source, K: Sink>(&mut self, steps: u64, input: &mut S, out: &mut K) -> Ending
+        requires fresh { IsTrue self.old.is_fresh }
+        requires steps { steps ≤ 1000000000 }
+        ensures run { Runs self.old self.new steps result (record { left_before = S.left input.old; left_now = S.left input.new; faults_before = S.faults input.old; faults_now = S.faults input.new }) (record { taken_before = K.taken out.old; taken_now = K.taken out.new; tally_before = K.tally out.old; tally_now = K.tally out.new; faults_before = K.faults out.old; faults_now = K.faults out.new }) }
+        ensures read_fault { result ≡ ending.ReadFault → Rose (S.faults input.old) (S.faults input.new) }
+        ensures write_fault { result ≡ ending.WriteFault → Rose (K.faults out.old) (K.faults out.new) }
+        ensures memory { result ≢ ending.NoMemory }
+        ensures bound { self.new.instructions ≤ most_instructions self.old.image steps }
+    {
+        let image = self.image.image();
+        let limit = (image.code.as_slice().len() as u64 + 1) * (steps + 1);
+        self.fresh = false;
+        self.execution.steps = steps;
+        self.execution
+            .run_out(image, &mut self.ports, input, out, limit)
+    }
+}

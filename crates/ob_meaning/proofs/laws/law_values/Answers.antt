@@ -1,0 +1,11 @@
+use Rattle.ob_meaning.proofs.TypedCalls.{calls_have_types, runs_begin_typed, values_have_types}
+use Rattle.ob_meaning.proofs.laws.law_values.Goals as goal
+
+pub returns-clause-expressions : goal.returns-clause-expressions
+returns-clause-expressions c = values_have_types
+
+pub returns-clause-calls : goal.returns-clause-calls
+returns-clause-calls c = calls_have_types
+
+pub returns-clause-runs : goal.returns-clause-runs
+returns-clause-runs c = runs_begin_typed

@@ -1,0 +1,5 @@
+pub mod StackWrites
+pub mod CallLists
+pub mod Entering
+pub mod Changing
+pub mod Nesting

@@ -1,0 +1,15 @@
+//! Checked memory of the flat machine: the frames of calls. Promises: the memory is what the definition
+//! of the machine says after each call, and the place that a call returns to, which lies in the bytes of
+//! its frame, stays what it was until the call is left. Stands on ob_flat for bytes, on ob_code for
+//! images and for what the machine does, and on ob_model for settings. After `new` it takes no memory.
+#![tactic(auto)]
+
+pub use space::{Space, StackFull};
+
+mod calls;
+mod frames;
+pub mod laws;
+mod rows;
+mod space;
+#[cfg(test)]
+mod tests;

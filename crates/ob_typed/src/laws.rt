@@ -1,0 +1,56 @@
+//! What holds of the definitions alone. Each law is the contract of a function that does nothing.
+
+ghost use Rattle.ob_tree.specs.declared.faults.TypeKind.TheVariants as kinds;
+ghost use Rattle.ob_typed.specs.Examples.{at};
+ghost use Rattle.ob_typed.specs.Faults.{no_place};
+ghost use Rattle.ob_typed.specs.FaultExamples.{undeclared_name, parts_first, two_objects, two_members, own_putchar, void_object, endless_structure, size_of_void, number_assigned, array_assigned, pointer_times, void_pointed_to, number_for_pointer, string_in_braces, no_argument, third_item, long_string};
+ghost use Rattle.ob_typed.specs.MoreFaultExamples.{list_for_number, called_object, function_as_value, member_of_int, no_elements, length_divides, great_array, variable_value, break_alone, value_of_void, no_main, main_of_char, called_without_body, nested_lists, member_without_place};
+ghost use Rattle.ob_typed.specs.SourceExamples.{conversions, elements, lines, recursion, strings};
+ghost use Rattle.ob_typed.specs.TypedExamples.{typed_conversions, typed_elements, typed_lines, typed_recursion, typed_strings};
+ghost use Rattle.ob_typed.specs.Typing.{FirstTypeFault, Types};
+
+/// The first faults of thirty-two programs, of each kind at least one, with the place of a token: what each
+/// program is stands beside it.
+pub fn law_first_faults()
+    ensures undeclared_name { FirstTypeFault undeclared_name (at kinds.Unknown 7) }
+    ensures parts_first { FirstTypeFault parts_first (at kinds.Unknown 10) }
+    ensures two_objects { FirstTypeFault two_objects (at kinds.Twice 4) }
+    ensures two_members { FirstTypeFault two_members (at kinds.Twice 7) }
+    ensures own_putchar { FirstTypeFault own_putchar (at kinds.Twice 1) }
+    ensures void_object { FirstTypeFault void_object (at kinds.Incomplete 1) }
+    ensures endless_structure { FirstTypeFault endless_structure (at kinds.Incomplete 5) }
+    ensures size_of_void { FirstTypeFault size_of_void (at kinds.Incomplete 3) }
+    ensures number_assigned { FirstTypeFault number_assigned (at kinds.NotPlace 7) }
+    ensures array_assigned { FirstTypeFault array_assigned (at kinds.NotPlace 13) }
+    ensures pointer_times { FirstTypeFault pointer_times (at kinds.Operand 9) }
+    ensures void_pointed_to { FirstTypeFault void_pointed_to (at kinds.Operand 8) }
+    ensures number_for_pointer { FirstTypeFault number_for_pointer (at kinds.Assign 4) }
+    ensures string_in_braces { FirstTypeFault string_in_braces (at kinds.Assign 7) }
+    ensures no_argument { FirstTypeFault no_argument (at kinds.Count 6) }
+    ensures third_item { FirstTypeFault third_item (at kinds.Count 11) }
+    ensures long_string { FirstTypeFault long_string (at kinds.Count 6) }
+    ensures list_for_number { FirstTypeFault list_for_number (at kinds.Count 3) }
+    ensures called_object { FirstTypeFault called_object (at kinds.NotFunction 7) }
+    ensures function_as_value { FirstTypeFault function_as_value (at kinds.NotFunction 3) }
+    ensures member_of_int { FirstTypeFault member_of_int (at kinds.Member 9) }
+    ensures no_elements { FirstTypeFault no_elements (at kinds.Constant 3) }
+    ensures length_divides { FirstTypeFault length_divides (at kinds.Constant 3) }
+    ensures great_array { FirstTypeFault great_array (at kinds.Constant 1) }
+    ensures variable_value { FirstTypeFault variable_value (at kinds.Constant 6) }
+    ensures break_alone { FirstTypeFault break_alone (at kinds.Jump 6) }
+    ensures value_of_void { FirstTypeFault value_of_void (at kinds.Jump 6) }
+    ensures no_main { FirstTypeFault no_main (at kinds.NoBody 4294967295) }
+    ensures main_of_char { FirstTypeFault main_of_char (at kinds.NoBody 1) }
+    ensures called_without_body { FirstTypeFault called_without_body (at kinds.NoBody 13) }
+    ensures nested_lists { FirstTypeFault nested_lists (at kinds.Twice 4) }
+    ensures member_without_place { FirstTypeFault member_without_place (at kinds.Member no_place) }
+{}
+
+/// The typed trees of five programs.
+pub fn law_typed_trees()
+    ensures recursion { Types recursion typed_recursion }
+    ensures elements { Types elements typed_elements }
+    ensures strings { Types strings typed_strings }
+    ensures lines { Types lines typed_lines }
+    ensures conversions { Types conversions typed_conversions }
+{}

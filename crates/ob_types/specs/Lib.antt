@@ -1,0 +1,2 @@
+pub mod FoundView
+pub mod Gives
