@@ -1,20 +1,19 @@
 -- Lists with one item more: what they spell, whether they are valid, and their nodes.
-use Rattle.std.proofs.Common.{◌≡◌, ℕ, zero, suc, ◌+◌, ◌-◌, ◌≤◌, max, min, List, [], ◌∷◌, ◌++◌, length, Bool, true, false, Option, Some, None, refl, sym, ◌∙◌, ap, ap₂, subst, arith, append_assoc, append-nil, length-append}
+use Rattle.std.proofs.Common.{◌≡◌, ℕ, zero, ◌+◌, ◌-◌, ◌≤◌, max, List, [], ◌∷◌, ◌++◌, length, Bool, true, false, Option, None, refl, sym, ◌∙◌, ap, subst, arith, append_assoc, append-nil, length-append}
 use Rattle.std.specs.Prelude.{cond}
 use Rattle.std.specs.List.{AllByRecursion}
-use Rattle.ob_tree.specs.declared.tokens.TokenKind.{TokenKind}
 use Rattle.ob_tree.specs.declared.tokens.TokenKind.TheVariants as kind
 use Rattle.ob_tree.specs.declared.tokens.Keyword.TheVariants as word
 use Rattle.ob_tree.specs.declared.tokens.Sign.TheVariants as sign
 use Rattle.ob_tree.specs.Trees.{ExprTree, SpecTree, DimTrees, InitTree, InitTrees}
 use Rattle.ob_tree.specs.Programs.{LocalTree, StmtTree, BlockTrees, ParamTree, ParamsTree, FileTree, ItemTree, ProgramTree}
-use Rattle.ob_tree.specs.Spelling.{stars, spell, spell_spec, spell_name, spell_dims, spell_comma, spell_init, spell_inits, spell_more_inits, listed, more_listed}
+use Rattle.ob_tree.specs.Spelling.{stars, spell, spell_spec, spell_name, spell_dims, spell_init, spell_inits, spell_more_inits, listed, more_listed}
 use Rattle.ob_tree.specs.ProgramSpelling.{spell_local, spell_stmt, spell_block, spell_param, spell_params, spell_file, spell_item, spell_program}
-use Rattle.ob_tree.specs.Valid.{ValidDims, ValidOpenDims, ValidInit, ValidInits, HasItem, IsOf}
-use Rattle.ob_tree.specs.ProgramValid.{ValidLocal, ValidStmt, ValidBlock, ValidParam, ValidList, ValidParams, ValidFile, ValidItem, is_void_alone}
+use Rattle.ob_tree.specs.Valid.{ValidOpenDims, ValidInit, ValidInits, HasItem, IsOf}
+use Rattle.ob_tree.specs.ProgramValid.{ValidLocal, ValidStmt, ValidBlock, ValidParam, ValidList, ValidParams, is_void_alone}
 use Rattle.ob_tree.specs.Places.{width, width_dims, width_init}
 use Rattle.ob_tree.specs.ProgramPlaces.{width_local, width_stmt, width_param, width_file, width_item}
-use Rattle.ob_tree.specs.Paths.{node_with, begun, begun_dims, begun_init, begun_inits, height, height_dims, height_init, height_inits}
+use Rattle.ob_tree.specs.Paths.{begun, begun_dims, begun_init, begun_inits, height_dims, height_init, height_inits}
 use Rattle.ob_tree.specs.ProgramPaths.{begun_local, begun_stmt, begun_block, begun_param, begun_list, begun_params, begun_file, begun_files, begun_item, begun_program, height_local, height_stmt, height_block, height_param, height_list, height_params, height_file, height_files, height_item, height_program}
 use Rattle.ob_tree.proofs.Machine.{add_dim}
 use Rattle.ob_tree.proofs.ProgramParts.{add_statement, add_local, add_init, params_of, has_items}

@@ -1,29 +1,27 @@
 -- Runs that keep within so many nodes on a path, in parts; and those over expressions, specifiers, brackets and
 -- initialisers.
-use Rattle.std.proofs.Common.{◌≡◌, ℕ, zero, suc, ◌+◌, ◌-◌, ◌<◌, ◌≤◌, ◌⊎◌, inl, inr, max, min, List, [], ◌∷◌, ◌++◌, length, take, Bool, true, false, Option, Some, None, refl, sym, ◌∙◌, ap, subst, arith, append_assoc, append-nil, length-append}
+use Rattle.std.proofs.Common.{◌≡◌, ℕ, zero, suc, ◌+◌, ◌-◌, ◌<◌, ◌≤◌, ◌⊎◌, inl, inr, max, List, [], ◌∷◌, ◌++◌, length, take, Bool, true, false, Option, Some, None, refl, sym, ◌∙◌, ap, subst, arith, append_assoc}
 use Rattle.std.proofs.lemmas.List.{take-append-le}
 use Rattle.std.proofs.lemmas.Bool.{cases_lt}
 use Rattle.std.proofs.Math.Seq.{take-append-add}
 use Rattle.ob_tree.specs.declared.tokens.TokenKind.{TokenKind}
 use Rattle.ob_tree.specs.declared.tokens.TokenKind.TheVariants as kind
 use Rattle.ob_tree.specs.declared.tokens.Sign.TheVariants as sign
-use Rattle.ob_tree.specs.Trees.{Mark, ExprTree, SpecTree, DimTrees, InitTree, InitTrees}
+use Rattle.ob_tree.specs.Trees.{ExprTree, SpecTree, DimTrees, InitTree, InitTrees}
 use Rattle.ob_tree.specs.Spelling.{stars, spell, spell_spec, spell_dims, spell_comma, spell_init, spell_more_inits}
 use Rattle.ob_tree.specs.ProgramSpelling.{spell_option}
 use Rattle.ob_tree.specs.Valid.{ValidSpec, ValidDims, ValidOpenDims, ValidInit, ValidInits, IsOf}
-use Rattle.ob_tree.specs.Places.{here, place, place_spec, place_dims, place_init, place_inits, width, width_spec, width_dims, width_init}
-use Rattle.ob_tree.specs.ProgramPlaces.{width_option, place_option}
-use Rattle.ob_tree.specs.Paths.{node_with, begun, begun_spec, begun_dims, begun_init, begun_inits, height, height_dims, height_init, height_inits}
+use Rattle.ob_tree.specs.Places.{here, place, place_init, width, width_init}
+use Rattle.ob_tree.specs.ProgramPlaces.{place_option}
+use Rattle.ob_tree.specs.Paths.{begun, begun_spec, begun_dims, begun_init, begun_inits, height, height_dims, height_init}
 use Rattle.ob_tree.specs.ProgramPaths.{begun_option}
 use Rattle.ob_tree.proofs.Machine as reader
-use Rattle.ob_tree.proofs.PlaceKeeps.{valid-place}
 use Rattle.ob_tree.proofs.FirstTokens.{FirstOf}
-use Rattle.ob_tree.proofs.ProgramStates.{Head, OfName, OfParam, Target, Braces, SpecUse, Use, Length, Item, State, Specifying, Dims, Optional, Reading, Init, AfterInit}
+use Rattle.ob_tree.proofs.ProgramStates.{Head, Target, Braces, SpecUse, Use, Length, Item, State, Specifying, Dims, Optional, Reading, Init, AfterInit}
 use Rattle.ob_tree.proofs.ProgramParts.{add_init}
-use Rattle.ob_tree.proofs.ProgramMachine.{use_level, initialised, step, step_if, run}
-use Rattle.ob_tree.proofs.ProgramRuns.{run-append, Reads, nothing, token, ◌before◌, counted, restart, read-stars, expr-lift, spec-lift, Ends, StartsExpr, first-expr}
+use Rattle.ob_tree.proofs.ProgramMachine.{use_level, initialised, step, run}
+use Rattle.ob_tree.proofs.ProgramRuns.{run-append, Reads, expr-lift, spec-lift, Ends, StartsExpr, first-expr}
 use Rattle.ob_tree.proofs.ProgramInits.{AtLevel, after_option, optional-starts, read-option, option-ends, open-bracket, after_init, init-ends, init-starts, comma-close, read-init}
-use Rattle.ob_exprs.specs.Loads as loads
 use Rattle.ob_exprs.specs.Loads.{count}
 use Rattle.ob_exprs.proofs.Begun.{begun-full}
 use Rattle.ob_exprs.proofs.Heights.{height-place, init-place, dims-height, dims-count}
@@ -32,7 +30,6 @@ use Rattle.ob_exprs.proofs.Reach.{reach, reach-spec}
 use Rattle.ob_parser.specs.Loads.{head_rise, head_load, target_depth, lists_load, spec_depth, spec_load, use_depth, use_load, load}
 use Rattle.ob_parser.proofs.Adding.{init-height}
 use Rattle.ob_parser.proofs.Full.{node-some, full-init}
-use Rattle.ob_parser.proofs.SoundStatements.{use-low}
 
 -- the machine goes on, and what it holds has at most m nodes on a path
 abbrev pub Within : ℕ → Option State → Type 0
@@ -132,19 +129,19 @@ module _ (lines : ℕ → ℕ) (m : ℕ) where
       w-token (kind.Sign sign.OpenBracket) (spell e ++ kind.Sign sign.CloseBracket ∷ spell_dims ds) k p (p + 1) (Dims h done) (Optional u) (λ z. omega arith) (open-bracket (here lines p) h done) refl
       (λ j z.
       (
-        let n = node-some k (max (begun e (k - 1)) (begun_dims ds (k - (width e + 2)))) (omega arith) in
-        let b : k - 1 ≡ j = omega arith in
-        w-part (spell e) (kind.Sign sign.CloseBracket ∷ spell_dims ds) j (p + 1) (p + 1 + width e) (Optional u) _ (read-option lines u (Some e) (p + 1) (v.0, v.1))
-        (λ w. reach-option u (Some e) j (p + 1) (v.0, v.1) (omega (arith, n)) (omega (arith, n, ap (begun e) b)))
-        (λ i y.
-        w-token (kind.Sign sign.CloseBracket) (spell_dims ds) (suc i) (p + 1 + width e) q (after_option u (place_option lines (p + 1) (Some e))) (Dims h (reader.add_dim done e')) (λ x. (let f : ⊥ = omega arith in absurd f))
-        (option-ends lines u (Some e) (p + 1) (here lines (p + 1 + width e)) (kind.Sign sign.CloseBracket) _ (v.0, v.1) tt refl) (omega arith)
-        (λ g x.
-        (
-          let f : begun e (k - 1) ≡ height e = begun-full e (k - 1) v.0 (omega arith) in
-          let r : k - (width e + 2) ≡ g = omega arith in
-          reach-dims h ds (reader.add_dim done e') g q v.2 l (omega (arith, n, f, dims-height done e', height-place lines (p + 1) e)) (omega (arith, n, dims-count done e', ap (begun_dims ds) r))
-        )))
+      let n = node-some k (max (begun e (k - 1)) (begun_dims ds (k - (width e + 2)))) (omega arith) in
+      let b : k - 1 ≡ j = omega arith in
+      w-part (spell e) (kind.Sign sign.CloseBracket ∷ spell_dims ds) j (p + 1) (p + 1 + width e) (Optional u) _ (read-option lines u (Some e) (p + 1) (v.0, v.1))
+      (λ w. reach-option u (Some e) j (p + 1) (v.0, v.1) (omega (arith, n)) (omega (arith, n, ap (begun e) b)))
+      (λ i y.
+      w-token (kind.Sign sign.CloseBracket) (spell_dims ds) (suc i) (p + 1 + width e) q (after_option u (place_option lines (p + 1) (Some e))) (Dims h (reader.add_dim done e')) (λ x. (let f : ⊥ = omega arith in absurd f))
+      (option-ends lines u (Some e) (p + 1) (here lines (p + 1 + width e)) (kind.Sign sign.CloseBracket) _ (v.0, v.1) tt refl) (omega arith)
+      (λ g x.
+      (
+      let f : begun e (k - 1) ≡ height e = begun-full e (k - 1) v.0 (omega arith) in
+      let r : k - (width e + 2) ≡ g = omega arith in
+      reach-dims h ds (reader.add_dim done e') g q v.2 l (omega (arith, n, f, dims-height done e', height-place lines (p + 1) e)) (omega (arith, n, dims-count done e', ap (begun_dims ds) r))
+      )))
       ))
 
   pub reach-open-dims : (h : Head) (ds : DimTrees) (k p : ℕ) → ValidOpenDims ds → head_load h ≤ m → head_rise h + begun_dims ds k ≤ m
@@ -156,9 +153,9 @@ module _ (lines : ℕ → ℕ) (m : ℕ) where
       (open-bracket (here lines p) h DimTrees.NoDims) refl
       (λ j z.
       (
-        let n = node-some k (begun_dims ds (k - 2)) (omega arith) in
-        w-token (kind.Sign sign.CloseBracket) (spell_dims ds) j (p + 1) (p + 2) (Optional (Length h DimTrees.NoDims)) (Dims h (DimTrees.Unsized DimTrees.NoDims)) (λ x. omega (arith, n)) refl (omega arith)
-        (λ i y. (let b : k - 2 ≡ i = omega arith in reach-dims h ds (DimTrees.Unsized DimTrees.NoDims) i (p + 2) v l (omega (arith, n)) (omega (arith, n, ap (begun_dims ds) b))))
+      let n = node-some k (begun_dims ds (k - 2)) (omega arith) in
+      w-token (kind.Sign sign.CloseBracket) (spell_dims ds) j (p + 1) (p + 2) (Optional (Length h DimTrees.NoDims)) (Dims h (DimTrees.Unsized DimTrees.NoDims)) (λ x. omega (arith, n)) refl (omega arith)
+      (λ i y. (let b : k - 2 ≡ i = omega arith in reach-dims h ds (DimTrees.Unsized DimTrees.NoDims) i (p + 2) v l (omega (arith, n)) (omega (arith, n, ap (begun_dims ds) b))))
       ))
 
   -- Initialisers.
@@ -176,19 +173,19 @@ module _ (lines : ℕ → ℕ) (m : ℕ) where
           w-token (kind.Sign sign.OpenBrace) ((spell_init i ++ spell_more_inits xs) ++ tail) k p (p + 1) (Init t is) (Init t (b ∷ is)) (λ z. l) refl refl
           (λ j z.
           (
-            let n = node-some k (max (begun_init i (k - 1)) (begun_inits xs (k - 1 - (width_init i + 1)))) (omega arith) in
-            let g : k - 1 ≡ j = omega arith in
-            w-spelled j (p + 1) (spell_init i ++ (spell_more_inits xs ++ tail)) ((spell_init i ++ spell_more_inits xs) ++ tail) (Init t (b ∷ is)) (sym (append_assoc (spell_init i) (spell_more_inits xs) tail)) (
-              w-part (spell_init i) (spell_more_inits xs ++ tail) j (p + 1) (p + 1 + width_init i) (Init t (b ∷ is)) _ (read-init lines t i (b ∷ is) (p + 1) v.1.0)
-              (λ w. reach-init i (b ∷ is) j (p + 1) v.1.0 (omega (arith, n)) (omega (arith, d, n, ap (begun_init i) g)))
-              (λ r y.
-              (
-                let fi : begun_init i (k - 1) ≡ height_init i = full-init i (k - 1) v.1.0 (omega arith) in
-                let gi : k - 1 - (width_init i + 1) ≡ suc r - 1 = omega arith in
-                reach-more xs comma is b (place_init lines (p + 1) i) (suc r) (p + 1 + width_init i) v.1.1 (λ c h. init-ends lines t (b ∷ is) i (p + 1) (here lines (p + 1 + width_init i)) c v.1.0 h)
-                (omega arith) (omega (arith, n)) (omega (arith, d, n, fi, init-place lines (p + 1) i)) (omega (arith, d, n, ap (begun_inits xs) gi))
-              ))
-            )
+          let n = node-some k (max (begun_init i (k - 1)) (begun_inits xs (k - 1 - (width_init i + 1)))) (omega arith) in
+          let g : k - 1 ≡ j = omega arith in
+          w-spelled j (p + 1) (spell_init i ++ (spell_more_inits xs ++ tail)) ((spell_init i ++ spell_more_inits xs) ++ tail) (Init t (b ∷ is)) (sym (append_assoc (spell_init i) (spell_more_inits xs) tail)) (
+          w-part (spell_init i) (spell_more_inits xs ++ tail) j (p + 1) (p + 1 + width_init i) (Init t (b ∷ is)) _ (read-init lines t i (b ∷ is) (p + 1) v.1.0)
+          (λ w. reach-init i (b ∷ is) j (p + 1) v.1.0 (omega (arith, n)) (omega (arith, d, n, ap (begun_init i) g)))
+          (λ r y.
+          (
+          let fi : begun_init i (k - 1) ≡ height_init i = full-init i (k - 1) v.1.0 (omega arith) in
+          let gi : k - 1 - (width_init i + 1) ≡ suc r - 1 = omega arith in
+          reach-more xs comma is b (place_init lines (p + 1) i) (suc r) (p + 1 + width_init i) v.1.1 (λ c h. init-ends lines t (b ∷ is) i (p + 1) (here lines (p + 1 + width_init i)) c v.1.0 h)
+          (omega arith) (omega (arith, n)) (omega (arith, d, n, fi, init-place lines (p + 1) i)) (omega (arith, d, n, ap (begun_inits xs) gi))
+          ))
+          )
           ))
 
       -- behind an initialiser of a list
@@ -212,17 +209,17 @@ module _ (lines : ℕ → ℕ) (m : ℕ) where
           w-token (kind.Sign sign.Comma) ((spell_init x ++ spell_more_inits xs) ++ tail) k p (p + 1) (after_init t (b ∷ is) i) (Init t (c ∷ is)) (λ y. (let f : ⊥ = omega arith in absurd f)) (h (kind.Sign sign.Comma) (omega arith)) refl
           (λ j y.
           (
-            let g : k - 1 ≡ j = omega arith in
-            let lc : lists_load t (c ∷ is) ≤ m = omega (arith, a, init-height b.items i) in
-            w-spelled j (p + 1) (spell_init x ++ (spell_more_inits xs ++ tail)) ((spell_init x ++ spell_more_inits xs) ++ tail) (Init t (c ∷ is)) (sym (append_assoc (spell_init x) (spell_more_inits xs) tail)) (
-              w-part (spell_init x) (spell_more_inits xs ++ tail) j (p + 1) (p + 1 + width_init x) (Init t (c ∷ is)) _ (read-init lines t x (c ∷ is) (p + 1) v.0)
-              (λ w. reach-init x (c ∷ is) j (p + 1) v.0 lc (omega (arith, d, ap (begun_init x) g)))
-              (λ r s.
-              (
-                let fi : begun_init x (k - 1) ≡ height_init x = full-init x (k - 1) v.0 (omega arith) in
-                let gi : k - 1 - (width_init x + 1) ≡ suc r - 1 = omega arith in
-                reach-more xs comma is c (place_init lines (p + 1) x) (suc r) (p + 1 + width_init x) v.1 (λ e f. init-ends lines t (c ∷ is) x (p + 1) (here lines (p + 1 + width_init x)) e v.0 f)
-                (omega arith) lc (omega (arith, d, fi, init-place lines (p + 1) x)) (omega (arith, d, ap (begun_inits xs) gi))
-              ))
-            )
+          let g : k - 1 ≡ j = omega arith in
+          let lc : lists_load t (c ∷ is) ≤ m = omega (arith, a, init-height b.items i) in
+          w-spelled j (p + 1) (spell_init x ++ (spell_more_inits xs ++ tail)) ((spell_init x ++ spell_more_inits xs) ++ tail) (Init t (c ∷ is)) (sym (append_assoc (spell_init x) (spell_more_inits xs) tail)) (
+          w-part (spell_init x) (spell_more_inits xs ++ tail) j (p + 1) (p + 1 + width_init x) (Init t (c ∷ is)) _ (read-init lines t x (c ∷ is) (p + 1) v.0)
+          (λ w. reach-init x (c ∷ is) j (p + 1) v.0 lc (omega (arith, d, ap (begun_init x) g)))
+          (λ r s.
+          (
+          let fi : begun_init x (k - 1) ≡ height_init x = full-init x (k - 1) v.0 (omega arith) in
+          let gi : k - 1 - (width_init x + 1) ≡ suc r - 1 = omega arith in
+          reach-more xs comma is c (place_init lines (p + 1) x) (suc r) (p + 1 + width_init x) v.1 (λ e f. init-ends lines t (c ∷ is) x (p + 1) (here lines (p + 1 + width_init x)) e v.0 f)
+          (omega arith) lc (omega (arith, d, fi, init-place lines (p + 1) x)) (omega (arith, d, ap (begun_inits xs) gi))
+          ))
+          )
           ))

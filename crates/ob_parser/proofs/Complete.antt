@@ -1,32 +1,31 @@
 -- What the machine holds can be made a whole program in which no further node has begun.
-use Rattle.std.proofs.Common.{◌≡◌, ℕ, zero, suc, ◌+◌, ◌-◌, ◌≤◌, max, min, List, [], ◌∷◌, ◌++◌, length, Bool, true, false, Option, Some, None, refl, sym, ◌∙◌, ap, subst, arith, append_assoc, append-nil, length-append}
+use Rattle.std.proofs.Common.{◌≡◌, ℕ, ◌+◌, ◌-◌, ◌≤◌, max, List, [], ◌∷◌, ◌++◌, length, Bool, None, refl, sym, ◌∙◌, ap, subst, arith, append_assoc, append-nil, length-append}
 use Rattle.std.specs.List.{AllByRecursion}
 use Rattle.ob_tree.specs.declared.tokens.TokenKind.{TokenKind}
 use Rattle.ob_tree.specs.declared.tokens.TokenKind.TheVariants as kind
 use Rattle.ob_tree.specs.declared.tokens.Keyword.TheVariants as word
 use Rattle.ob_tree.specs.declared.tokens.Sign.TheVariants as sign
-use Rattle.ob_tree.specs.Trees.{Mark, ExprTree, SpecTree, ObjTree, ObjTrees, DimTrees, InitTree, InitTrees}
-use Rattle.ob_tree.specs.Programs.{LocalTree, StartTree, StmtTree, BlockTrees, ParamTree, ParamsTree, FileTree, ItemTree, ProgramTree}
-use Rattle.ob_tree.specs.Spelling.{stars, spell, spell_spec, spell_name, spell_dims, spell_comma, spell_init, spell_objs, listed}
-use Rattle.ob_tree.specs.ProgramSpelling.{spell_option, spell_static, spell_local, spell_start, spell_stmt, spell_block, spell_param, spell_params, spell_function, spell_file, spell_program}
-use Rattle.ob_tree.specs.Valid.{ValidSpec, ValidDims, ValidOpenDims, ValidInit, ValidInits, IsOf}
-use Rattle.ob_tree.specs.ProgramValid.{ValidStmt, ValidParam, ValidFile, ValidFiles, ValidItem, ValidProgram, IsBlock}
-use Rattle.ob_tree.specs.Places.{width, width_name, width_spec, width_dims}
-use Rattle.ob_tree.specs.Paths.{node_with, begun, begun_spec, begun_objs, begun_obj, begun_dims, begun_init, height_spec, height_objs}
+use Rattle.ob_tree.specs.Trees.{SpecTree}
+use Rattle.ob_tree.specs.Programs.{LocalTree, StartTree, StmtTree, FileTree, ItemTree, ProgramTree}
+use Rattle.ob_tree.specs.Spelling.{spell, spell_spec, listed}
+use Rattle.ob_tree.specs.ProgramSpelling.{spell_option, spell_static, spell_local, spell_start, spell_stmt, spell_block, spell_function, spell_file, spell_program}
+use Rattle.ob_tree.specs.Valid.{ValidSpec}
+use Rattle.ob_tree.specs.ProgramValid.{ValidStmt, ValidFile, ValidFiles, ValidItem, ValidProgram, IsBlock}
+use Rattle.ob_tree.specs.Places.{width, width_spec}
+use Rattle.ob_tree.specs.Paths.{node_with, begun, begun_spec, begun_objs, begun_obj}
 use Rattle.ob_tree.specs.ProgramPlaces.{width_option, width_static, width_local, width_start, width_stmt, width_params, width_file}
-use Rattle.ob_tree.specs.ProgramPaths.{begun_option, begun_start, begun_stmt, begun_block, begun_local, begun_params, begun_param, begun_function, begun_file, begun_files, begun_item, begun_program, height_start, height_stmt, height_block}
+use Rattle.ob_tree.specs.ProgramPaths.{begun_option, begun_start, begun_stmt, begun_block, begun_local, begun_function, begun_file, begun_files, begun_program}
 use Rattle.ob_tree.specs.Fronts.{Begins}
-use Rattle.ob_tree.proofs.SpecSteps.{length-stars}
 use Rattle.ob_tree.proofs.OneProgram.{length-function}
-use Rattle.ob_tree.proofs.ProgramStates.{Definition, Frame, InBody, InBlock, InIf, InElse, InWhile, InDo, InFor, Owner, Outer, Inner, Start, Declaration, Declarator, Listing, Head, OfName, OfParam, Target, Braces}
-use Rattle.ob_tree.proofs.ProgramParts.{add_statement, add_local, add_init, add_name, params_of, objects, bare, initial, function}
+use Rattle.ob_tree.proofs.ProgramStates.{Definition, Frame, InBody, InBlock, InIf, InElse, InWhile, InDo, InFor, Owner, Outer, Inner, Start, Declaration}
+use Rattle.ob_tree.proofs.ProgramParts.{add_statement, add_local, objects}
 use Rattle.ob_tree.proofs.ProgramMachine.{define}
 use Rattle.ob_tree.proofs.ProgramNames.{IsOuter, MayDeclare}
-use Rattle.ob_exprs.proofs.Filling.{leaf, x, valid-x}
-use Rattle.ob_parser.specs.Loads.{load_stack, owner_depth, owner_load, depth_in, declaration_load, declarator_load, listing_load, head_rise, head_load, target_depth, lists_load}
-use Rattle.ob_parser.proofs.Most.{node-most, most, spec-most, dims-most, init-most, option-most, start-most, stmt-most, block-most, params-most, function-most, files-most}
-use Rattle.ob_parser.proofs.Shapes.{names_before, params_before, inits_before, if_open, while_open, for_open, definition_spell, frame_spell, stack_spell, owner_spell, heading_spell, declaration_spell, declarator_spell, listing_spell, head_spell, lists_spell, Takes, TakesStmt, IsUnder, Stands, OwnerOk, MayBe, DeclarationOk, DeclaratorOk, ListingOk, HeadOk, TargetOk}
-use Rattle.ob_parser.proofs.Adding.{statement-spelled, statement-valid, statement-begun, local-spelled, local-valid, local-begun, item-spelled, item-begun, all-more, name-spelled, name-begun, params-spelled, params-valid, params-begun, init-spelled, init-valid, init-some, init-begun}
+use Rattle.ob_exprs.proofs.Filling.{leaf}
+use Rattle.ob_parser.specs.Loads.{load_stack, owner_depth, owner_load, depth_in, declaration_load}
+use Rattle.ob_parser.proofs.Most.{node-most, most, spec-most, option-most, start-most, stmt-most, function-most}
+use Rattle.ob_parser.proofs.Shapes.{names_before, if_open, while_open, for_open, definition_spell, frame_spell, stack_spell, owner_spell, declaration_spell, Takes, Stands, OwnerOk, MayBe, DeclarationOk}
+use Rattle.ob_parser.proofs.Adding.{statement-spelled, statement-valid, statement-begun, local-spelled, local-valid, local-begun, item-spelled, item-begun, all-more, name-spelled, name-begun}
 use Rattle.ob_parser.proofs.Sound.{all-objects, valid-names, valid-more}
 use Rattle.ob_parser.proofs.SoundStatements.{takes-any, takes-block, define-valid, define-spelled}
 
@@ -262,13 +261,13 @@ module _ (m : ℕ) where
       let p : begun_local y r ≡ begun_declaration fixed s xs r =
       ap (λ z. node_with r (max (begun_spec s (r - width_static fixed)) z)) (begun-objects o xs (r - (width_static fixed + width_spec s)) (λ z. z) d) in
       completes-same m (stack_spell fs ++ read2) (owner_spell o ++ read) (sym (append_assoc (stack_spell fs) (kind.Sign sign.OpenBrace ∷ spell_block items) read)) (
-        complete-stmt m fs t read2 (rest ++ kind.Sign sign.CloseBrace ∷ []) ok.1 (takes-block fs f n (add_local items y) ok.2) (local-valid items y ok.0 (v, valid-names o s xs (λ z. z) d w))
-        (
-          ap (λ ks. kind.Sign sign.OpenBrace ∷ (ks ++ kind.Sign sign.CloseBrace ∷ [])) (local-spelled items y ∙ ap (λ ks. spell_block items ++ ks) (e ∙ g))
-          ∙ ap (λ ks. kind.Sign sign.OpenBrace ∷ ks) (groups (spell_block items) read rest (kind.Sign sign.CloseBrace ∷ []))
-        )
-        (omega arith)
-        (omega (arith, node-most k (begun_block (add_local items y) (k - 1)), local-begun items y (k - 1) r (omega (arith, n2)), p))
+      complete-stmt m fs t read2 (rest ++ kind.Sign sign.CloseBrace ∷ []) ok.1 (takes-block fs f n (add_local items y) ok.2) (local-valid items y ok.0 (v, valid-names o s xs (λ z. z) d w))
+      (
+      ap (λ ks. kind.Sign sign.OpenBrace ∷ (ks ++ kind.Sign sign.CloseBrace ∷ [])) (local-spelled items y ∙ ap (λ ks. spell_block items ++ ks) (e ∙ g))
+      ∙ ap (λ ks. kind.Sign sign.OpenBrace ∷ ks) (groups (spell_block items) read rest (kind.Sign sign.CloseBrace ∷ []))
+      )
+      (omega arith)
+      (omega (arith, node-most k (begun_block (add_local items y) (k - 1)), local-begun items y (k - 1) r (omega (arith, n2)), p))
       )
     where
       groups : (a b c d : List TokenKind) → (a ++ (b ++ c)) ++ d ≡ (a ++ b) ++ (c ++ d)
@@ -287,17 +286,17 @@ module _ (m : ℕ) where
       let p : begun_local y (k - 2) ≡ begun_declaration fixed s xs r =
       ap (λ i. begun_local y i) n2 ∙ ap (λ q. node_with r (max (begun_spec s (r - width_static fixed)) q)) (begun-objects o xs (r - (width_static fixed + width_spec s)) (λ i. i) d) in
       completes-same m (stack_spell fs ++ read2) (owner_spell o ++ read) (sym (append_assoc (stack_spell fs) for_open read)) (
-        complete-stmt m fs t read2 (rest ++ tail) ok.1 (takes-any fs t ok.0) ((b, (v, valid-names o s xs (λ i. i) d w)), tt, tt, tt)
-        (ap (λ ks. for_open ++ (ks ++ tail)) (e ∙ g) ∙ groups for_open read rest tail)
-        (omega arith)
-        (
-          omega (
-            arith,
-            node-most k (max (begun_local y (k - 2)) (max 0 (max 0 (begun_stmt empty (k - (width_local y + 0 + 0 + 4)))))),
-            p,
-            ap (λ i. begun_stmt empty i) z,
-          )
-        )
+      complete-stmt m fs t read2 (rest ++ tail) ok.1 (takes-any fs t ok.0) ((b, (v, valid-names o s xs (λ i. i) d w)), tt, tt, tt)
+      (ap (λ ks. for_open ++ (ks ++ tail)) (e ∙ g) ∙ groups for_open read rest tail)
+      (omega arith)
+      (
+      omega (
+        arith,
+        node-most k (max (begun_local y (k - 2)) (max 0 (max 0 (begun_stmt empty (k - (width_local y + 0 + 0 + 4)))))),
+        p,
+        ap (λ i. begun_stmt empty i) z,
+      )
+      )
       )
     where
       groups : (a b c d : List TokenKind) → a ++ ((b ++ c) ++ d) ≡ (a ++ b) ++ (c ++ d)
@@ -320,23 +319,24 @@ module _ (m : ℕ) where
         length-append (names_before d.names) read,
       ) in
       completes-same m (owner_spell o ++ read2) (declaration_spell d ++ read) (groups (owner_spell o) (spell_static fixed) (spell_spec d.spec) (names_before d.names) read) (
-        complete-declaration o fixed d.spec xs read2 (rest ++ kind.Sign sign.Semi ∷ []) ok.0.0 ok.0.1 ok.1 (all-more (MayDeclare o) d.names y ok.3 w) (valid-more d.spec d.names y ok.2 v)
-        (
-          ap (λ ks. spell_static fixed ++ (spell_spec d.spec ++ (ks ++ kind.Sign sign.Semi ∷ []))) (name-spelled d.names y ∙ ap (λ ks. names_before d.names ++ ks) g)
-          ∙ regroup (spell_static fixed) (spell_spec d.spec) (names_before d.names) read rest (kind.Sign sign.Semi ∷ [])
-        )
-        (omega arith)
-        (
-          omega (
-            arith,
-            node-most k (max (begun_spec d.spec (k - width_static fixed)) (begun_files xs a)),
-            spec-most d.spec (k - width_static fixed),
-            name-begun d.names y a (length read) (omega (arith, n)),
-          )
-        )
+      complete-declaration o fixed d.spec xs read2 (rest ++ kind.Sign sign.Semi ∷ []) ok.0.0 ok.0.1 ok.1 (all-more (MayDeclare o) d.names y ok.3 w) (valid-more d.spec d.names y ok.2 v)
+      (
+      ap (λ ks. spell_static fixed ++ (spell_spec d.spec ++ (ks ++ kind.Sign sign.Semi ∷ []))) (name-spelled d.names y ∙ ap (λ ks. names_before d.names ++ ks) g)
+      ∙ regroup (spell_static fixed) (spell_spec d.spec) (names_before d.names) read rest (kind.Sign sign.Semi ∷ [])
+      )
+      (omega arith)
+      (
+      omega (
+        arith,
+        node-most k (max (begun_spec d.spec (k - width_static fixed)) (begun_files xs a)),
+        spec-most d.spec (k - width_static fixed),
+        name-begun d.names y a (length read) (omega (arith, n)),
+      )
+      )
       )
     where
       groups : (o f s n r : List TokenKind) → o ++ (f ++ (s ++ (n ++ r))) ≡ ((o ++ f) ++ (s ++ n)) ++ r
       groups o f s n r = simp append_assoc
+
       regroup : (f s n r t k : List TokenKind) → f ++ (s ++ ((n ++ (r ++ t)) ++ k)) ≡ (f ++ (s ++ (n ++ r))) ++ (t ++ k)
       regroup f s n r t k = simp append_assoc

@@ -1,35 +1,28 @@
 -- What the machine holds of a declarator can be made a whole program in which no further node has begun.
-use Rattle.std.proofs.Common.{◌≡◌, ℕ, zero, suc, ◌+◌, ◌-◌, ◌≤◌, max, min, List, [], ◌∷◌, ◌++◌, length, Bool, true, false, Option, Some, None, refl, sym, ◌∙◌, ap, subst, arith, append_assoc, append-nil, length-append}
+use Rattle.std.proofs.Common.{◌≡◌, ℕ, ◌+◌, ◌-◌, ◌≤◌, max, List, [], ◌∷◌, ◌++◌, length, false, None, sym, ◌∙◌, ap, arith, append_assoc, append-nil, length-append}
 use Rattle.std.specs.List.{AllByRecursion}
 use Rattle.ob_tree.specs.declared.tokens.TokenKind.{TokenKind}
 use Rattle.ob_tree.specs.declared.tokens.TokenKind.TheVariants as kind
-use Rattle.ob_tree.specs.declared.tokens.Keyword.TheVariants as word
 use Rattle.ob_tree.specs.declared.tokens.Sign.TheVariants as sign
-use Rattle.ob_tree.specs.Trees.{ExprTree, SpecTree, ObjTree, DimTrees, InitTree, InitTrees}
-use Rattle.ob_tree.specs.Programs.{StartTree, StmtTree, ParamTree, ParamsTree, FileTree}
-use Rattle.ob_tree.specs.Spelling.{stars, spell, spell_spec, spell_name, spell_dims, spell_init, spell_inits}
-use Rattle.ob_tree.specs.ProgramSpelling.{spell_option, spell_static, spell_start, spell_stmt, spell_param, spell_params, spell_file}
-use Rattle.ob_tree.specs.Valid.{ValidSpec, ValidDims, ValidOpenDims, ValidInit, ValidInits, IsOf}
-use Rattle.ob_tree.specs.ProgramValid.{ValidStmt, ValidParam, ValidFile}
-use Rattle.ob_tree.specs.Places.{width, width_name, width_spec, width_dims}
-use Rattle.ob_tree.specs.Paths.{node_with, begun, begun_spec, begun_dims, begun_init, begun_inits, height_spec, height_dims}
-use Rattle.ob_tree.specs.ProgramPlaces.{width_option, width_static, width_start, width_stmt}
-use Rattle.ob_tree.specs.ProgramPaths.{begun_option, begun_start, begun_stmt, begun_params, begun_param, begun_file, begun_files}
-use Rattle.ob_tree.proofs.Machine.{add_dim}
+use Rattle.ob_tree.specs.Trees.{SpecTree, ObjTree, DimTrees, InitTree}
+use Rattle.ob_tree.specs.Programs.{ParamTree, FileTree}
+use Rattle.ob_tree.specs.Spelling.{stars, spell, spell_spec, spell_name, spell_dims, spell_init}
+use Rattle.ob_tree.specs.ProgramSpelling.{spell_static, spell_param}
+use Rattle.ob_tree.specs.Valid.{ValidSpec, ValidDims, ValidOpenDims, ValidInit, ValidInits}
+use Rattle.ob_tree.specs.ProgramValid.{ValidParam}
+use Rattle.ob_tree.specs.Places.{width_name, width_spec, width_dims}
+use Rattle.ob_tree.specs.Paths.{begun_spec, begun_dims, begun_init, begun_inits}
+use Rattle.ob_tree.specs.ProgramPlaces.{width_static}
+use Rattle.ob_tree.specs.ProgramPaths.{begun_param, begun_files}
 use Rattle.ob_tree.proofs.SpecSteps.{length-stars}
-use Rattle.ob_tree.proofs.ProgramStates.{Frame, Declaration, Declarator, Listing, Head, OfName, OfParam, Target, Braces, SpecUse, ForDeclaration, ForParam, Use, Statement, IfTest, WhileTest, DoTest, ForStart, ForTest, ForNext, Return, Length, Item}
+use Rattle.ob_tree.proofs.ProgramStates.{Declarator, Listing, Head, OfName, OfParam, Target, Braces, SpecUse, ForDeclaration, ForParam}
 use Rattle.ob_tree.proofs.ProgramParts.{add_init, params_of, bare, initial, function}
-use Rattle.ob_tree.proofs.ProgramMachine.{use_level}
-use Rattle.ob_tree.proofs.ProgramNames.{IsOuter}
-use Rattle.ob_exprs.specs.Loads.{count}
-use Rattle.ob_exprs.proofs.Adding.{dims-added}
 use Rattle.ob_exprs.proofs.Filling.{leaf, x, valid-x}
-use Rattle.ob_parser.specs.Loads.{load_stack, owner_depth, owner_load, depth_in, declaration_load, declarator_load, listing_load, head_rise, head_load, target_depth, target_load, lists_load, spec_depth, spec_load, use_depth, use_load}
-use Rattle.ob_parser.proofs.Most.{node-most, most, spec-most, dims-most, init-most, option-most, start-most, stmt-most, params-most}
-use Rattle.ob_parser.proofs.Shapes.{params_before, inits_before, if_open, while_open, for_open, stack_spell, owner_spell, heading_spell, declaration_spell, declarator_spell, listing_spell, head_spell, lists_spell, spec_use_spell, use_spell, TakesStmt, Stands, DeclarationOk, DeclaratorOk, ListingOk, HeadOk, TargetOk, SpecUseOk, UseOk}
-use Rattle.ob_parser.proofs.Adding.{params-spelled, params-valid, params-begun, init-spelled, init-valid, init-some, init-begun, open-valid, dim-begun}
-use Rattle.ob_parser.proofs.SoundStatements.{takes-any}
-use Rattle.ob_parser.proofs.Complete.{Completes, completes-same, empty, complete-stmt, complete-declaration, complete-name}
+use Rattle.ob_parser.specs.Loads.{depth_in, declarator_load, listing_load, head_rise, head_load, target_depth, target_load, lists_load, spec_depth, spec_load}
+use Rattle.ob_parser.proofs.Most.{node-most, spec-most, dims-most}
+use Rattle.ob_parser.proofs.Shapes.{params_before, inits_before, owner_spell, heading_spell, declaration_spell, declarator_spell, listing_spell, head_spell, lists_spell, spec_use_spell, DeclaratorOk, ListingOk, HeadOk, TargetOk, SpecUseOk}
+use Rattle.ob_parser.proofs.Adding.{params-spelled, params-valid, params-begun, init-spelled, init-valid, init-some, init-begun}
+use Rattle.ob_parser.proofs.Complete.{Completes, completes-same, complete-declaration, complete-name}
 
 module _ (m : ℕ) where
   -- a row of brackets behind a name
@@ -41,9 +34,9 @@ module _ (m : ℕ) where
       let n : k ≡ y.stars + 1 + length read = omega (arith, length-append (stars y.stars) (kind.Name y.name ∷ read), length-stars y.stars) in
       let e : k - (y.stars + 1) ≡ length read = omega (arith, n) in
       completes-same m (declaration_spell y.declaration ++ read2) (declarator_spell y ++ read) (groups (declaration_spell y.declaration) (stars y.stars) (kind.Name y.name) read) (
-        complete-name m y.declaration (bare y ds) read2 rest ok.0 (ok.1, v) tt
-        (ap (λ ks. stars y.stars ++ kind.Name y.name ∷ ks) g ∙ sym (append_assoc (stars y.stars) (kind.Name y.name ∷ read) rest)) (omega arith)
-        (omega (arith, ap (λ z. begun_dims ds z) e))
+      complete-name m y.declaration (bare y ds) read2 rest ok.0 (ok.1, v) tt
+      (ap (λ ks. stars y.stars ++ kind.Name y.name ∷ ks) g ∙ sym (append_assoc (stars y.stars) (kind.Name y.name ∷ read) rest)) (omega arith)
+      (omega (arith, ap (λ z. begun_dims ds z) e))
       )
     where
       groups : (d s : List TokenKind) (n : TokenKind) (r : List TokenKind) → d ++ (s ++ n ∷ r) ≡ (d ++ (s ++ n ∷ [])) ++ r
@@ -65,17 +58,18 @@ module _ (m : ℕ) where
       let e : k - (y.stars + width_dims t.dims + 2) ≡ length read = omega (arith, n) in
       completes-same m (declaration_spell y.declaration ++ read2) (lists_spell t [] ++ read)
       (groups (declaration_spell y.declaration) (stars y.stars) (kind.Name y.name) (spell_dims t.dims) (kind.Sign sign.Assign) read) (
-        complete-name m y.declaration (initial t i) read2 rest ok.0.0 (ok.0.1, ok.1, v) tt
-        (
-          ap (λ ks. stars y.stars ++ kind.Name y.name ∷ (spell_dims t.dims ++ kind.Sign sign.Assign ∷ ks)) g
-          ∙ regroup (stars y.stars) (kind.Name y.name) (spell_dims t.dims) (kind.Sign sign.Assign) read rest
-        )
-        (omega arith)
-        (omega (arith, dims-most t.dims (k - (y.stars + 1)), ap (λ z. begun_init i z) e))
+      complete-name m y.declaration (initial t i) read2 rest ok.0.0 (ok.0.1, ok.1, v) tt
+      (
+      ap (λ ks. stars y.stars ++ kind.Name y.name ∷ (spell_dims t.dims ++ kind.Sign sign.Assign ∷ ks)) g
+      ∙ regroup (stars y.stars) (kind.Name y.name) (spell_dims t.dims) (kind.Sign sign.Assign) read rest
+      )
+      (omega arith)
+      (omega (arith, dims-most t.dims (k - (y.stars + 1)), ap (λ z. begun_init i z) e))
       )
     where
       groups : (d s : List TokenKind) (n : TokenKind) (l : List TokenKind) (e : TokenKind) (r : List TokenKind) → d ++ (s ++ n ∷ (l ++ e ∷ r)) ≡ ((d ++ (s ++ n ∷ [])) ++ (l ++ e ∷ [])) ++ r
       groups d s n l e r = simp append_assoc
+
       regroup : (s : List TokenKind) (n : TokenKind) (l : List TokenKind) (e : TokenKind) (r t : List TokenKind) → s ++ n ∷ (l ++ e ∷ (r ++ t)) ≡ (s ++ n ∷ (l ++ e ∷ r)) ++ t
       regroup s n l e r t = simp append_assoc
 
@@ -89,13 +83,13 @@ module _ (m : ℕ) where
       let k = length read2 in
       let n : k ≡ 1 + length (inits_before b.items) + length read = omega (arith, length-append (inits_before b.items) read) in
       completes-same m (lists_spell t is ++ read2) (lists_spell t (b ∷ is) ++ read) (sym (append_assoc (lists_spell t is) (kind.Sign sign.OpenBrace ∷ inits_before b.items) read)) (
-        complete-init t is z read2 (rest ++ kind.Sign sign.CloseBrace ∷ []) ok a.1 (init-some b.items i, init-valid b.items i a.0 v)
-        (
-          ap (λ ks. kind.Sign sign.OpenBrace ∷ (ks ++ kind.Sign sign.CloseBrace ∷ [])) (init-spelled b.items i ∙ ap (λ ks. inits_before b.items ++ ks) g)
-          ∙ ap (λ ks. kind.Sign sign.OpenBrace ∷ ks) (groups (inits_before b.items) read rest (kind.Sign sign.CloseBrace ∷ []))
-        )
-        (omega arith)
-        (omega (arith, h, node-most k (begun_inits (add_init b.items i) (k - 1)), init-begun b.items i (k - 1) (length read) (omega (arith, n))))
+      complete-init t is z read2 (rest ++ kind.Sign sign.CloseBrace ∷ []) ok a.1 (init-some b.items i, init-valid b.items i a.0 v)
+      (
+      ap (λ ks. kind.Sign sign.OpenBrace ∷ (ks ++ kind.Sign sign.CloseBrace ∷ [])) (init-spelled b.items i ∙ ap (λ ks. inits_before b.items ++ ks) g)
+      ∙ ap (λ ks. kind.Sign sign.OpenBrace ∷ ks) (groups (inits_before b.items) read rest (kind.Sign sign.CloseBrace ∷ []))
+      )
+      (omega arith)
+      (omega (arith, h, node-most k (begun_inits (add_init b.items i) (k - 1)), init-begun b.items i (k - 1) (length read) (omega (arith, n))))
       )
     where
       groups : (a b c d : List TokenKind) → (a ++ (b ++ c)) ++ d ≡ (a ++ b) ++ (c ++ d)
@@ -113,17 +107,18 @@ module _ (m : ℕ) where
       let e : k - (y.stars + 1) ≡ length read = omega (arith, n) in
       let z : k - (y.stars + width_dims ds + 2) ≡ 0 = omega (arith, n, ap length g, length-append read rest) in
       completes-same m (declaration_spell y.declaration ++ read2) (declarator_spell y ++ read) (groups (declaration_spell y.declaration) (stars y.stars) (kind.Name y.name) read) (
-        complete-name m y.declaration (initial t i) read2 (rest ++ kind.Sign sign.Assign ∷ spell leaf) ok.0 (ok.1, v, (tt, omega arith)) tt
-        (
-          ap (λ ks. stars y.stars ++ kind.Name y.name ∷ (ks ++ kind.Sign sign.Assign ∷ spell leaf)) g
-          ∙ regroup (stars y.stars) (kind.Name y.name) read rest (kind.Sign sign.Assign ∷ spell leaf)
-        )
-        (omega arith)
-        (omega (arith, ap (λ z. begun_dims ds z) e, ap (λ z. begun_init i z) z))
+      complete-name m y.declaration (initial t i) read2 (rest ++ kind.Sign sign.Assign ∷ spell leaf) ok.0 (ok.1, v, (tt, omega arith)) tt
+      (
+      ap (λ ks. stars y.stars ++ kind.Name y.name ∷ (ks ++ kind.Sign sign.Assign ∷ spell leaf)) g
+      ∙ regroup (stars y.stars) (kind.Name y.name) read rest (kind.Sign sign.Assign ∷ spell leaf)
+      )
+      (omega arith)
+      (omega (arith, ap (λ z. begun_dims ds z) e, ap (λ z. begun_init i z) z))
       )
     where
       groups : (d s : List TokenKind) (n : TokenKind) (r : List TokenKind) → d ++ (s ++ n ∷ r) ≡ (d ++ (s ++ n ∷ [])) ++ r
       groups d s n r = simp append_assoc
+
       regroup : (s : List TokenKind) (n : TokenKind) (r t k : List TokenKind) → s ++ n ∷ ((r ++ t) ++ k) ≡ (s ++ n ∷ r) ++ (t ++ k)
       regroup s n r t k = simp append_assoc
 
@@ -149,17 +144,18 @@ module _ (m : ℕ) where
       ) in
       completes-same m (declaration_spell f.declaration ++ read2) (listing_spell l ++ read)
       (groups (declaration_spell f.declaration) (stars f.stars) (kind.Name f.name) (kind.Sign sign.OpenParen) (params_before l.params) read) (
-        complete-name m f.declaration (function f ps) read2 (rest ++ kind.Sign sign.CloseParen ∷ []) ok.0.0 (ok.0.1, params-valid l.params y ok.2 v) ok.1
-        (
-          ap (λ ks. stars f.stars ++ kind.Name f.name ∷ (kind.Sign sign.OpenParen ∷ (ks ++ kind.Sign sign.CloseParen ∷ []))) (params-spelled l.params y ∙ ap (λ ks. params_before l.params ++ ks) g)
-          ∙ regroup (stars f.stars) (kind.Name f.name) (kind.Sign sign.OpenParen) (params_before l.params) read rest (kind.Sign sign.CloseParen ∷ [])
-        )
-        (omega arith)
-        (omega (arith, params-begun l.params y (k - (f.stars + 2)) (length read) (omega (arith, n))))
+      complete-name m f.declaration (function f ps) read2 (rest ++ kind.Sign sign.CloseParen ∷ []) ok.0.0 (ok.0.1, params-valid l.params y ok.2 v) ok.1
+      (
+      ap (λ ks. stars f.stars ++ kind.Name f.name ∷ (kind.Sign sign.OpenParen ∷ (ks ++ kind.Sign sign.CloseParen ∷ []))) (params-spelled l.params y ∙ ap (λ ks. params_before l.params ++ ks) g)
+      ∙ regroup (stars f.stars) (kind.Name f.name) (kind.Sign sign.OpenParen) (params_before l.params) read rest (kind.Sign sign.CloseParen ∷ [])
+      )
+      (omega arith)
+      (omega (arith, params-begun l.params y (k - (f.stars + 2)) (length read) (omega (arith, n))))
       )
     where
       groups : (d s : List TokenKind) (n o : TokenKind) (p r : List TokenKind) → d ++ (s ++ n ∷ (o ∷ (p ++ r))) ≡ ((d ++ (s ++ n ∷ [])) ++ o ∷ p) ++ r
       groups d s n o p r = simp append_assoc
+
       regroup : (s : List TokenKind) (n o : TokenKind) (p r t k : List TokenKind) → s ++ n ∷ (o ∷ ((p ++ (r ++ t)) ++ k)) ≡ (s ++ n ∷ (o ∷ (p ++ r))) ++ (t ++ k)
       regroup s n o p r t k = simp append_assoc
 
@@ -180,13 +176,14 @@ module _ (m : ℕ) where
       ) in
       let e : k - (width_spec s + i + width_name name) ≡ length read = omega (arith, w) in
       completes-same m (listing_spell l ++ read2) (head_spell (OfParam l f n s i name a) ++ read) (groups (listing_spell l) (spell_spec s) (stars i) (spell_name name) read) (
-        complete-param l y read2 rest ok.0 (ok.1, ok.2, v)
-        (ap (λ ks. spell_spec s ++ (stars i ++ (spell_name name ++ ks))) g ∙ regroup (spell_spec s) (stars i) (spell_name name) read rest) (omega arith)
-        (omega (arith, spec-most s k, ap (λ z. begun_dims ds z) e))
+      complete-param l y read2 rest ok.0 (ok.1, ok.2, v)
+      (ap (λ ks. spell_spec s ++ (stars i ++ (spell_name name ++ ks))) g ∙ regroup (spell_spec s) (stars i) (spell_name name) read rest) (omega arith)
+      (omega (arith, spec-most s k, ap (λ z. begun_dims ds z) e))
       )
     where
       groups : (l s i n r : List TokenKind) → l ++ (s ++ (i ++ (n ++ r))) ≡ (l ++ (s ++ (i ++ n))) ++ r
       groups l s i n r = simp append_assoc
+
       regroup : (s i n r t : List TokenKind) → s ++ (i ++ (n ++ (r ++ t))) ≡ (s ++ (i ++ (n ++ r))) ++ t
       regroup s i n r t = simp append_assoc
 
@@ -209,9 +206,9 @@ module _ (m : ℕ) where
       let files = λ (j : ℕ). begun_files (y ∷ []) j in
       completes-same m (owner_spell o ++ read2) (heading_spell d ++ read)
       (sym (append_assoc (owner_spell o) (spell_static d.fixed) read)) (
-        complete-declaration m o d.fixed s (y ∷ []) read2 (rest ++ tail) ok.0 ok.1 v (tt, tt) ((valid-x, tt), tt)
-        (ap (λ ks. spell_static d.fixed ++ (ks ++ tail)) g ∙ groups (spell_static d.fixed) read rest tail) (omega arith)
-        (omega (arith, h, node-most k (max (begun_spec s (k - w)) (files (k - (w + width_spec s)))), ap (λ j. begun_spec s j) e, ap files z))
+      complete-declaration m o d.fixed s (y ∷ []) read2 (rest ++ tail) ok.0 ok.1 v (tt, tt) ((valid-x, tt), tt)
+      (ap (λ ks. spell_static d.fixed ++ (ks ++ tail)) g ∙ groups (spell_static d.fixed) read rest tail) (omega arith)
+      (omega (arith, h, node-most k (max (begun_spec s (k - w)) (files (k - (w + width_spec s)))), ap (λ j. begun_spec s j) e, ap files z))
       )
     where
       groups : (a b c d : List TokenKind) → a ++ ((b ++ c) ++ d) ≡ (a ++ b) ++ (c ++ d)

@@ -1,35 +1,32 @@
 -- Each state of the machine can be made a whole program in which no further node has begun.
-use Rattle.std.proofs.Common.{◌≡◌, ℕ, zero, suc, ◌+◌, ◌-◌, ◌≤◌, ◌⊎◌, inl, inr, max, min, List, [], ◌∷◌, ◌++◌, length, Bool, true, false, Option, Some, None, refl, sym, ◌∙◌, ap, subst, arith, append_assoc, append-nil, length-append}
-use Rattle.std.specs.List.{AllByRecursion}
+use Rattle.std.proofs.Common.{◌≡◌, ℕ, ◌+◌, ◌-◌, ◌≤◌, inl, inr, max, List, [], ◌∷◌, ◌++◌, length, false, Some, None, refl, sym, ◌∙◌, ap, arith, append_assoc, append-nil, length-append}
 use Rattle.ob_tree.specs.declared.tokens.TokenKind.{TokenKind}
 use Rattle.ob_tree.specs.declared.tokens.TokenKind.TheVariants as kind
 use Rattle.ob_tree.specs.declared.tokens.Keyword.TheVariants as word
 use Rattle.ob_tree.specs.declared.tokens.Sign.TheVariants as sign
-use Rattle.ob_tree.specs.Trees.{ExprTree, SpecTree, ObjTree, DimTrees, InitTree, InitTrees}
+use Rattle.ob_tree.specs.Trees.{ExprTree, SpecTree, ObjTree, DimTrees, InitTree}
 use Rattle.ob_tree.specs.Programs.{StartTree, StmtTree, ParamTree, ParamsTree, FileTree, ProgramTree}
 use Rattle.ob_tree.specs.Spelling.{stars, spell, spell_spec, spell_dims, spell_init}
 use Rattle.ob_tree.specs.ProgramSpelling.{spell_option, spell_start, spell_stmt, spell_params, spell_program}
-use Rattle.ob_tree.specs.Valid.{ValidDims, ValidOpenDims, IsOf}
-use Rattle.ob_tree.specs.ProgramValid.{ValidOption, ValidStmt}
-use Rattle.ob_tree.specs.Places.{width, width_spec, width_dims}
-use Rattle.ob_tree.specs.Paths.{node_with, begun, begun_spec, begun_dims, begun_init, height, height_spec, height_dims}
+use Rattle.ob_tree.specs.Valid.{IsOf}
+use Rattle.ob_tree.specs.ProgramValid.{ValidStmt}
+use Rattle.ob_tree.specs.Places.{width, width_dims}
+use Rattle.ob_tree.specs.Paths.{begun}
 use Rattle.ob_tree.specs.ProgramPlaces.{width_option, width_start, width_stmt}
-use Rattle.ob_tree.specs.ProgramPaths.{begun_option, begun_start, begun_stmt, begun_file, begun_files, begun_params, begun_param, height_stmt}
+use Rattle.ob_tree.specs.ProgramPaths.{begun_option, begun_start, begun_stmt, height_stmt}
 use Rattle.ob_tree.proofs.Machine as reader
 use Rattle.ob_tree.proofs.SpecSteps.{length-stars}
-use Rattle.ob_tree.proofs.ProgramStates.{Frame, InBody, InBlock, InIf, InElse, InWhile, InDo, InFor, Outer, Declaration, Declarator, Listing, Head, OfName, OfParam, Target, Braces, SpecUse, ForDeclaration, ForParam, Use, Statement, IfTest, WhileTest, DoTest, ForStart, ForTest, ForNext, Return, Length, Item, State, Items, Specifying, Declare, Dims, Optional, Reading, Init, AfterInit, Params, NextParam, Param, Closed, Begin, Opening, ForWord, ForOpen, Semi, Done}
-use Rattle.ob_tree.proofs.ProgramParts.{bare, function}
+use Rattle.ob_tree.proofs.ProgramStates.{Frame, InBody, InBlock, InIf, InElse, InWhile, InDo, InFor, Outer, Declaration, Declarator, Listing, Head, Target, Braces, SpecUse, Use, Statement, IfTest, WhileTest, DoTest, ForStart, ForTest, ForNext, Return, Length, Item, State, Items, Specifying, Declare, Dims, Optional, Reading, Init, AfterInit, Params, NextParam, Param, Closed, Begin, Opening, ForWord, ForOpen, Semi, Done}
+use Rattle.ob_tree.proofs.ProgramParts.{function}
 use Rattle.ob_tree.proofs.ProgramMachine.{use_level}
-use Rattle.ob_exprs.specs.Loads as loads
-use Rattle.ob_exprs.specs.Loads.{count}
 use Rattle.ob_exprs.proofs.Adding.{dims-added}
 use Rattle.ob_exprs.proofs.Filling.{leaf, x, valid-x}
 use Rattle.ob_exprs.proofs.Shapes as expr
 use Rattle.ob_exprs.proofs.Complete as expr_complete
 use Rattle.ob_exprs.proofs.States as expr_states
-use Rattle.ob_parser.specs.Loads.{load_stack, owner_depth, owner_load, depth_in, declaration_load, declarator_load, listing_load, head_rise, head_load, target_depth, target_load, lists_load, spec_depth, spec_load, use_depth, use_load, load}
-use Rattle.ob_parser.proofs.Most.{node-most, most, spec-most, dims-most, init-most, option-most, start-most, stmt-most, params-most, param-most, function-most}
-use Rattle.ob_parser.proofs.Shapes.{if_open, while_open, for_open, stack_spell, declaration_spell, declarator_spell, listing_spell, head_spell, lists_spell, spec_use_spell, opening_spell, use_spell, semi_spell, state_spell, TakesStmt, Stands, DeclarationOk, DeclaratorOk, ListingOk, HeadOk, TargetOk, SpecUseOk, IsTest, UseOk, SemiOk, StateOk}
+use Rattle.ob_parser.specs.Loads.{load_stack, listing_load, target_depth, lists_load, spec_depth, use_depth, use_load, load}
+use Rattle.ob_parser.proofs.Most.{node-most, dims-most, init-most, option-most, start-most, stmt-most, param-most, function-most}
+use Rattle.ob_parser.proofs.Shapes.{if_open, while_open, for_open, stack_spell, declaration_spell, listing_spell, head_spell, lists_spell, spec_use_spell, opening_spell, use_spell, semi_spell, state_spell, TakesStmt, Stands, DeclarationOk, ListingOk, SpecUseOk, IsTest, UseOk, SemiOk, StateOk}
 use Rattle.ob_parser.proofs.Adding.{open-valid, dim-begun}
 use Rattle.ob_parser.proofs.SoundStatements.{takes-any, use-low}
 use Rattle.ob_parser.proofs.Complete.{Completes, completes-same, empty, complete-stmt, complete-declaration, complete-name}
@@ -77,8 +74,8 @@ module _ (m : ℕ) where
       let z : k - (width e + 3) ≡ 0 = omega (arith, ap length g, length-append read rest) in
       let tail = kind.Sign sign.CloseParen ∷ spell_stmt empty in
       completes-same m (stack_spell fs ++ read2) ((stack_spell fs ++ if_open) ++ read) (sym (append_assoc (stack_spell fs) if_open read)) (
-        part fs (StmtTree.If f n e empty) read2 (rest ++ tail) ok.0 ok.1 (v.0, tt) (ap (λ ks. if_open ++ (ks ++ tail)) g ∙ ap (λ ks. if_open ++ ks) (append_assoc read rest tail)) (omega arith)
-        (omega (arith, node-most k (max (begun e (k - 2)) (begun_stmt empty (k - (width e + 3)))), ap (λ j. begun e j) i, ap (λ j. begun_stmt empty j) z))
+      part fs (StmtTree.If f n e empty) read2 (rest ++ tail) ok.0 ok.1 (v.0, tt) (ap (λ ks. if_open ++ (ks ++ tail)) g ∙ ap (λ ks. if_open ++ ks) (append_assoc read rest tail)) (omega arith)
+      (omega (arith, node-most k (max (begun e (k - 2)) (begun_stmt empty (k - (width e + 3)))), ap (λ j. begun e j) i, ap (λ j. begun_stmt empty j) z))
       )
   complete-use (WhileTest f n fs) e read rest ok v g l h =
       let read2 = while_open ++ read in
@@ -87,8 +84,8 @@ module _ (m : ℕ) where
       let z : k - (width e + 3) ≡ 0 = omega (arith, ap length g, length-append read rest) in
       let tail = kind.Sign sign.CloseParen ∷ spell_stmt empty in
       completes-same m (stack_spell fs ++ read2) ((stack_spell fs ++ while_open) ++ read) (sym (append_assoc (stack_spell fs) while_open read)) (
-        part fs (StmtTree.While f n e empty) read2 (rest ++ tail) ok.0 ok.1 (v.0, tt) (ap (λ ks. while_open ++ (ks ++ tail)) g ∙ ap (λ ks. while_open ++ ks) (append_assoc read rest tail)) (omega arith)
-        (omega (arith, node-most k (max (begun e (k - 2)) (begun_stmt empty (k - (width e + 3)))), ap (λ j. begun e j) i, ap (λ j. begun_stmt empty j) z))
+      part fs (StmtTree.While f n e empty) read2 (rest ++ tail) ok.0 ok.1 (v.0, tt) (ap (λ ks. while_open ++ (ks ++ tail)) g ∙ ap (λ ks. while_open ++ ks) (append_assoc read rest tail)) (omega arith)
+      (omega (arith, node-most k (max (begun e (k - 2)) (begun_stmt empty (k - (width e + 3)))), ap (λ j. begun e j) i, ap (λ j. begun_stmt empty j) z))
       )
   complete-use (DoTest f n s fs) e read rest ok v g l h =
       let tail = kind.Sign sign.CloseParen ∷ (kind.Sign sign.Semi ∷ []) in
@@ -97,13 +94,14 @@ module _ (m : ℕ) where
       let n2 : k ≡ width_stmt s + 3 + length read = omega (arith, length-append (spell_stmt s) (while_open ++ read)) in
       let i : k - (width_stmt s + 3) ≡ length read = omega (arith, n2) in
       completes-same m (stack_spell fs ++ read2) (use_spell (DoTest f n s fs) ++ read) (groups (stack_spell fs) (kind.Word word.Do) (spell_stmt s) while_open read) (
-        part fs (StmtTree.Do f n s e) read2 (rest ++ tail) ok.0 ok.1 (ok.2, v.0)
-        (ap (λ ks. kind.Word word.Do ∷ (spell_stmt s ++ (while_open ++ (ks ++ tail)))) g ∙ ap (λ ks. kind.Word word.Do ∷ ks) (regroup (spell_stmt s) while_open read rest tail)) (omega arith)
-        (omega (arith, node-most k (max (begun_stmt s (k - 1)) (begun e (k - (width_stmt s + 3)))), stmt-most s (k - 1), ap (λ j. begun e j) i))
+      part fs (StmtTree.Do f n s e) read2 (rest ++ tail) ok.0 ok.1 (ok.2, v.0)
+      (ap (λ ks. kind.Word word.Do ∷ (spell_stmt s ++ (while_open ++ (ks ++ tail)))) g ∙ ap (λ ks. kind.Word word.Do ∷ ks) (regroup (spell_stmt s) while_open read rest tail)) (omega arith)
+      (omega (arith, node-most k (max (begun_stmt s (k - 1)) (begun e (k - (width_stmt s + 3)))), stmt-most s (k - 1), ap (λ j. begun e j) i))
       )
     where
       groups : (a : List TokenKind) (d : TokenKind) (s w r : List TokenKind) → a ++ d ∷ (s ++ (w ++ r)) ≡ (a ++ d ∷ (s ++ w)) ++ r
       groups a d s w r = simp append_assoc
+
       regroup : (s w r t k : List TokenKind) → s ++ (w ++ ((r ++ t) ++ k)) ≡ (s ++ (w ++ r)) ++ (t ++ k)
       regroup s w r t k = simp append_assoc
   complete-use (ForStart f n fs) e read rest ok v g l h =
@@ -116,8 +114,8 @@ module _ (m : ℕ) where
       let i : k - 2 ≡ length read = omega arith in
       let z : k - (w + 0 + 0 + 4) ≡ 0 = omega (arith, wide, ap length g, length-append read rest) in
       completes-same m (stack_spell fs ++ read2) ((stack_spell fs ++ for_open) ++ read) (sym (append_assoc (stack_spell fs) for_open read)) (
-        part fs t read2 (rest ++ tail) ok.0 ok.1 (v.0, tt, tt, tt) (ap (λ ks. for_open ++ ((ks ++ kind.Sign sign.Semi ∷ []) ++ (kind.Sign sign.Semi ∷ (kind.Sign sign.CloseParen ∷ spell_stmt empty)))) g ∙ ap (λ ks. for_open ++ ks) (regroup read rest (kind.Sign sign.Semi) (kind.Sign sign.Semi ∷ (kind.Sign sign.CloseParen ∷ spell_stmt empty)))) (omega arith)
-        (omega (arith, node-most k (max (begun e (k - 2)) (max 0 (max 0 (begun_stmt empty (k - (w + 0 + 0 + 4)))))), ap (λ j. begun e j) i, ap (λ j. begun_stmt empty j) z))
+      part fs t read2 (rest ++ tail) ok.0 ok.1 (v.0, tt, tt, tt) (ap (λ ks. for_open ++ ((ks ++ kind.Sign sign.Semi ∷ []) ++ (kind.Sign sign.Semi ∷ (kind.Sign sign.CloseParen ∷ spell_stmt empty)))) g ∙ ap (λ ks. for_open ++ ks) (regroup read rest (kind.Sign sign.Semi) (kind.Sign sign.Semi ∷ (kind.Sign sign.CloseParen ∷ spell_stmt empty)))) (omega arith)
+      (omega (arith, node-most k (max (begun e (k - 2)) (max 0 (max 0 (begun_stmt empty (k - (w + 0 + 0 + 4)))))), ap (λ j. begun e j) i, ap (λ j. begun_stmt empty j) z))
       )
     where
       regroup : (r t : List TokenKind) (q : TokenKind) (k : List TokenKind) → ((r ++ t) ++ q ∷ []) ++ k ≡ r ++ (t ++ q ∷ k)
@@ -132,12 +130,13 @@ module _ (m : ℕ) where
       let i : k - (w + 2) ≡ length read = omega (arith, n2) in
       let z : k - (w + width e + 0 + 4) ≡ 0 = omega (arith, n2, ap length g, length-append read rest) in
       completes-same m (stack_spell fs ++ read2) (use_spell (ForTest f n start fs) ++ read) (groups (stack_spell fs) for_open (spell_start start) read) (
-        part fs t read2 (rest ++ tail) ok.0 ok.1 (ok.2, v.0, tt, tt) (ap (λ ks. for_open ++ (spell_start start ++ (ks ++ tail))) g ∙ ap (λ ks. for_open ++ ks) (regroup (spell_start start) read rest tail)) (omega arith)
-        (omega (arith, node-most k (max (begun_start start (k - 2)) (max (begun e (k - (w + 2))) (max 0 (begun_stmt empty (k - (w + width e + 0 + 4)))))), start-most start (k - 2), ap (λ j. begun e j) i, ap (λ j. begun_stmt empty j) z))
+      part fs t read2 (rest ++ tail) ok.0 ok.1 (ok.2, v.0, tt, tt) (ap (λ ks. for_open ++ (spell_start start ++ (ks ++ tail))) g ∙ ap (λ ks. for_open ++ ks) (regroup (spell_start start) read rest tail)) (omega arith)
+      (omega (arith, node-most k (max (begun_start start (k - 2)) (max (begun e (k - (w + 2))) (max 0 (begun_stmt empty (k - (w + width e + 0 + 4)))))), start-most start (k - 2), ap (λ j. begun e j) i, ap (λ j. begun_stmt empty j) z))
       )
     where
       groups : (a b c r : List TokenKind) → a ++ (b ++ (c ++ r)) ≡ (a ++ (b ++ c)) ++ r
       groups a b c r = simp append_assoc
+
       regroup : (s r t k : List TokenKind) → s ++ ((r ++ t) ++ k) ≡ (s ++ r) ++ (t ++ k)
       regroup s r t k = simp append_assoc
   complete-use (ForNext f n start test fs) e read rest ok v g l h =
@@ -151,22 +150,23 @@ module _ (m : ℕ) where
       let i : k - (w + o + 3) ≡ length read = omega (arith, n2) in
       let z : k - (w + o + width e + 4) ≡ 0 = omega (arith, n2, ap length g, length-append read rest) in
       completes-same m (stack_spell fs ++ read2) (use_spell (ForNext f n start test fs) ++ read) (groups (stack_spell fs) for_open (spell_start start) (spell_option test) (kind.Sign sign.Semi) read) (
-        part fs t read2 (rest ++ tail) ok.0 ok.1 (ok.2, ok.3, v.0, tt)
-        (ap (λ ks. for_open ++ (spell_start start ++ (spell_option test ++ kind.Sign sign.Semi ∷ (ks ++ tail)))) g ∙ ap (λ ks. for_open ++ ks) (regroup (spell_start start) (spell_option test) (kind.Sign sign.Semi) read rest tail)) (omega arith)
-        (
-          omega (
-            arith,
-            node-most k (max (begun_start start (k - 2)) (max (begun_option test (k - (w + 2))) (max (begun e (k - (w + o + 3))) (begun_stmt empty (k - (w + o + width e + 4)))))),
-            start-most start (k - 2),
-            option-most test (k - (w + 2)),
-            ap (λ j. begun e j) i,
-            ap (λ j. begun_stmt empty j) z,
-          )
-        )
+      part fs t read2 (rest ++ tail) ok.0 ok.1 (ok.2, ok.3, v.0, tt)
+      (ap (λ ks. for_open ++ (spell_start start ++ (spell_option test ++ kind.Sign sign.Semi ∷ (ks ++ tail)))) g ∙ ap (λ ks. for_open ++ ks) (regroup (spell_start start) (spell_option test) (kind.Sign sign.Semi) read rest tail)) (omega arith)
+      (
+      omega (
+        arith,
+        node-most k (max (begun_start start (k - 2)) (max (begun_option test (k - (w + 2))) (max (begun e (k - (w + o + 3))) (begun_stmt empty (k - (w + o + width e + 4)))))),
+        start-most start (k - 2),
+        option-most test (k - (w + 2)),
+        ap (λ j. begun e j) i,
+        ap (λ j. begun_stmt empty j) z,
+      )
+      )
       )
     where
       groups : (a b c d : List TokenKind) (q : TokenKind) (r : List TokenKind) → a ++ (b ++ (c ++ (d ++ q ∷ r))) ≡ (a ++ (b ++ (c ++ (d ++ q ∷ [])))) ++ r
       groups a b c d q r = simp append_assoc
+
       regroup : (s d : List TokenKind) (q : TokenKind) (r t k : List TokenKind) → s ++ (d ++ q ∷ ((r ++ t) ++ k)) ≡ (s ++ (d ++ q ∷ r)) ++ (t ++ k)
       regroup s d q r t k = simp append_assoc
   complete-use (Return f n fs) e read rest ok v g l h =
@@ -174,22 +174,23 @@ module _ (m : ℕ) where
       let k = length read2 in
       let i : k - 1 ≡ length read = omega arith in
       completes-same m (stack_spell fs ++ read2) (use_spell (Return f n fs) ++ read) (sym (append_assoc (stack_spell fs) (kind.Word word.Return ∷ []) read)) (
-        part fs (StmtTree.Return f n (Some e)) read2 (rest ++ kind.Sign sign.Semi ∷ []) ok.0 ok.1 v.0
-        (ap (λ ks. kind.Word word.Return ∷ (ks ++ kind.Sign sign.Semi ∷ [])) g ∙ ap (λ ks. kind.Word word.Return ∷ ks) (append_assoc read rest (kind.Sign sign.Semi ∷ []))) (omega arith)
-        (omega (arith, node-most k (begun e (k - 1)), ap (λ j. begun e j) i))
+      part fs (StmtTree.Return f n (Some e)) read2 (rest ++ kind.Sign sign.Semi ∷ []) ok.0 ok.1 v.0
+      (ap (λ ks. kind.Word word.Return ∷ (ks ++ kind.Sign sign.Semi ∷ [])) g ∙ ap (λ ks. kind.Word word.Return ∷ ks) (append_assoc read rest (kind.Sign sign.Semi ∷ []))) (omega arith)
+      (omega (arith, node-most k (begun e (k - 1)), ap (λ j. begun e j) i))
       )
   complete-use (Length b ds) e read rest ok v g l h =
       let read2 = spell_dims ds ++ kind.Sign sign.OpenBracket ∷ read in
       let k = length read2 in
       let n : k ≡ width_dims ds + 1 + length read = length-append (spell_dims ds) (kind.Sign sign.OpenBracket ∷ read) ∙ omega arith in
       completes-same m (head_spell b ++ read2) (use_spell (Length b ds) ++ read) (groups (head_spell b) (spell_dims ds) (kind.Sign sign.OpenBracket) read) (
-        complete-head m b (reader.add_dim ds e) read2 (rest ++ kind.Sign sign.CloseBracket ∷ []) ok.0 (open-valid ds e ok.1 v)
-        (dims-added ds e ∙ ap (λ ks. spell_dims ds ++ kind.Sign sign.OpenBracket ∷ (ks ++ kind.Sign sign.CloseBracket ∷ [])) g ∙ regroup (spell_dims ds) (kind.Sign sign.OpenBracket) read rest (kind.Sign sign.CloseBracket ∷ [])) (omega arith)
-        (omega (arith, dim-begun ds e k (length read) n))
+      complete-head m b (reader.add_dim ds e) read2 (rest ++ kind.Sign sign.CloseBracket ∷ []) ok.0 (open-valid ds e ok.1 v)
+      (dims-added ds e ∙ ap (λ ks. spell_dims ds ++ kind.Sign sign.OpenBracket ∷ (ks ++ kind.Sign sign.CloseBracket ∷ [])) g ∙ regroup (spell_dims ds) (kind.Sign sign.OpenBracket) read rest (kind.Sign sign.CloseBracket ∷ [])) (omega arith)
+      (omega (arith, dim-begun ds e k (length read) n))
       )
     where
       groups : (a b : List TokenKind) (o : TokenKind) (r : List TokenKind) → a ++ (b ++ o ∷ r) ≡ (a ++ (b ++ o ∷ [])) ++ r
       groups a b o r = simp append_assoc
+
       regroup : (b : List TokenKind) (o : TokenKind) (r t k : List TokenKind) → b ++ o ∷ ((r ++ t) ++ k) ≡ (b ++ o ∷ r) ++ (t ++ k)
       regroup b o r t k = simp append_assoc
   complete-use (Item t is) e read rest ok v g l h = complete-init m t is (InitTree.Value e) read rest ok.0 ok.1 v g l h
@@ -233,7 +234,7 @@ module _ (m : ℕ) where
   items-whole : (items : ProgramTree) → StateOk (Items items) → load (Items items) ≤ m → Completes m (spell_program items)
   items-whole items ok l =
       completes-same m (spell_program items ++ []) (spell_program items) (append-nil (spell_program items)) (
-        complete-declaration m (Outer items) false (SpecTree.Tag 0 x) [] [] (kind.Word word.Struct ∷ (kind.Name x ∷ (kind.Sign sign.Semi ∷ []))) ok tt valid-x tt tt refl l (omega arith)
+      complete-declaration m (Outer items) false (SpecTree.Tag 0 x) [] [] (kind.Word word.Struct ∷ (kind.Name x ∷ (kind.Sign sign.Semi ∷ []))) ok tt valid-x tt tt refl l (omega arith)
       )
 
   declare-whole : (d : Declaration) (n : ℕ) → DeclarationOk d → load (Declare d n) ≤ m → Completes m (declaration_spell d ++ stars n)
@@ -261,7 +262,7 @@ module _ (m : ℕ) where
       let call = kind.Sign sign.OpenParen ∷ (spell_params ps ++ kind.Sign sign.CloseParen ∷ []) in
       let read = stars y.stars ++ kind.Name y.name ∷ call in
       completes-same m (declaration_spell y.declaration ++ read) (state_spell (Closed y ps)) (groups (declaration_spell y.declaration) (stars y.stars) (kind.Name y.name) call) (
-        complete-name m y.declaration (function y ps) read [] ok.0.0 (ok.0.1, ok.2) ok.1 (sym (append-nil read)) (omega arith) (omega (arith, function-most y.stars ps (length read)))
+      complete-name m y.declaration (function y ps) read [] ok.0.0 (ok.0.1, ok.2) ok.1 (sym (append-nil read)) (omega arith) (omega (arith, function-most y.stars ps (length read)))
       )
     where
       groups : (d s : List TokenKind) (n : TokenKind) (c : List TokenKind) → d ++ (s ++ n ∷ c) ≡ (d ++ (s ++ n ∷ [])) ++ c

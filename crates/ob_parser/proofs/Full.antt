@@ -1,23 +1,23 @@
 -- When the whole of a tree was read, all of its nodes have begun; and placing a tree keeps its nodes.
-use Rattle.std.proofs.Common.{◌≡◌, ℕ, zero, suc, ◌+◌, ◌-◌, ◌<◌, ◌≤◌, max, min, List, [], ◌∷◌, ◌++◌, length, Bool, true, false, Option, Some, None, refl, sym, ◌∙◌, ap, arith, length-append}
+use Rattle.std.proofs.Common.{◌≡◌, ℕ, zero, suc, ◌+◌, ◌-◌, ◌<◌, ◌≤◌, max, List, [], ◌∷◌, ◌++◌, length, Bool, Option, Some, None, refl, arith, length-append}
 use Rattle.std.specs.List.{AllByRecursion}
 use Rattle.ob_tree.specs.declared.tokens.TokenKind.TheVariants as kind
 use Rattle.ob_tree.specs.declared.tokens.Keyword.TheVariants as word
 use Rattle.ob_tree.specs.declared.tokens.Sign.TheVariants as sign
 use Rattle.ob_tree.specs.Trees.{ExprTree, SpecTree, ObjTree, ObjTrees, DimTrees, InitTree, InitTrees}
-use Rattle.ob_tree.specs.Programs.{LocalTree, StartTree, StmtTree, BlockTrees, ParamTree, ParamsTree, FileTree, ItemTree, ProgramTree}
+use Rattle.ob_tree.specs.Programs.{LocalTree, StartTree, StmtTree, BlockTrees, ParamTree, ParamsTree, FileTree, ItemTree}
 use Rattle.ob_tree.specs.Spelling.{stars, spell, spell_spec, spell_name, spell_objs, spell_more_objs, spell_obj, spell_dims, spell_comma, spell_init, spell_inits, spell_more_inits, listed, more_listed}
-use Rattle.ob_tree.specs.ProgramSpelling.{spell_option, spell_static, spell_local, spell_start, spell_stmt, spell_block, spell_param, spell_params, spell_function, spell_file, spell_item, spell_program}
-use Rattle.ob_tree.specs.Valid.{Valid, ValidSpec, ValidDims, ValidOpenDims, ValidInit, ValidInits, ValidObj, ValidObjs}
+use Rattle.ob_tree.specs.ProgramSpelling.{spell_option, spell_static, spell_local, spell_start, spell_stmt, spell_block, spell_param, spell_function, spell_file}
+use Rattle.ob_tree.specs.Valid.{ValidOpenDims, ValidInit, ValidInits, ValidObj, ValidObjs}
 use Rattle.ob_tree.specs.ProgramValid.{ValidOption, ValidNames, ValidLocal, ValidStart, ValidStmt, ValidBlock, ValidParam, ValidList, ValidParams, ValidFile, ValidFiles, ValidItem}
-use Rattle.ob_tree.specs.Places.{width, width_name, width_spec, width_objs, width_obj, width_dims, width_init, place, place_spec, place_objs, place_obj, place_dims, place_init}
-use Rattle.ob_tree.specs.Paths.{node_with, begun, begun_spec, begun_objs, begun_obj, begun_dims, begun_init, begun_inits, height, height_spec, height_objs, height_obj, height_dims, height_init, height_inits}
-use Rattle.ob_tree.specs.ProgramPlaces.{width_option, width_static, width_local, width_start, width_stmt, width_param, width_params, width_file, width_item, place_option, place_local, place_start, place_stmt, place_block, place_param, place_list, place_params, place_file, place_files, place_item, place_program}
-use Rattle.ob_tree.specs.ProgramPaths.{begun_option, begun_local, begun_start, begun_stmt, begun_block, begun_param, begun_list, begun_params, begun_function, begun_file, begun_files, begun_item, begun_program, height_option, height_local, height_start, height_stmt, height_block, height_param, height_list, height_params, height_function, height_file, height_files, height_item, height_program}
+use Rattle.ob_tree.specs.Places.{width, width_name, width_spec, width_objs, width_obj, width_dims, width_init}
+use Rattle.ob_tree.specs.Paths.{node_with, begun, begun_spec, begun_objs, begun_obj, begun_dims, begun_init, begun_inits, height_objs, height_obj, height_dims, height_init, height_inits}
+use Rattle.ob_tree.specs.ProgramPlaces.{width_option, width_static, width_local, width_start, width_stmt, width_param, width_params, width_file, width_item, place_option, place_local, place_start, place_stmt, place_block, place_param, place_list, place_params, place_file, place_files, place_item}
+use Rattle.ob_tree.specs.ProgramPaths.{begun_option, begun_local, begun_start, begun_stmt, begun_block, begun_param, begun_list, begun_params, begun_function, begun_file, begun_files, begun_item, height_option, height_local, height_start, height_stmt, height_block, height_param, height_list, height_params, height_function, height_file, height_files, height_item}
 use Rattle.ob_tree.proofs.SpecSteps.{length-stars}
 use Rattle.ob_tree.proofs.OneProgram.{length-function}
 use Rattle.ob_exprs.proofs.Begun.{begun-full, full-spec, full-dims}
-use Rattle.ob_exprs.proofs.Heights.{height-place, spec-place, objs-place, obj-place, dims-place, init-place}
+use Rattle.ob_exprs.proofs.Heights.{height-place, spec-place, objs-place, obj-place, dims-place}
 
 pub node-some : (k n : ℕ) → 0 < k → node_with k n ≡ 1 + n
 node-some zero n h = absurd (omega arith)

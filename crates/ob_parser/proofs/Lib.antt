@@ -10,3 +10,7 @@ pub mod CompleteStates
 pub mod Full
 pub mod Climbs
 pub mod ReachParams
+pub mod ReachNames
+pub mod ReachStatements
+pub mod Exact
+pub mod OneAnswer

@@ -1,33 +1,33 @@
 -- What the machine holds after a part of the tokens of parameters is no deeper than the nodes that have begun.
-use Rattle.std.proofs.Common.{◌≡◌, ℕ, zero, suc, ◌+◌, ◌-◌, ◌<◌, ◌≤◌, max, min, List, [], ◌∷◌, ◌++◌, length, take, Bool, true, false, Option, Some, None, refl, sym, ◌∙◌, ap, subst, arith, append_assoc, append-nil, length-append}
+use Rattle.std.proofs.Common.{◌≡◌, ℕ, zero, suc, ◌+◌, ◌-◌, ◌≤◌, max, min, List, [], ◌∷◌, ◌++◌, take, Option, Some, None, refl, sym, ap, subst, arith, append_assoc}
 use Rattle.std.specs.List.{AllByRecursion}
 use Rattle.ob_tree.specs.declared.tokens.TokenKind.{TokenKind}
 use Rattle.ob_tree.specs.declared.tokens.TokenKind.TheVariants as kind
 use Rattle.ob_tree.specs.declared.tokens.Keyword.TheVariants as word
 use Rattle.ob_tree.specs.declared.tokens.Sign.TheVariants as sign
-use Rattle.ob_tree.specs.Trees.{Mark, SpecTree, DimTrees}
+use Rattle.ob_tree.specs.Trees.{SpecTree, DimTrees}
 use Rattle.ob_tree.specs.Programs.{ParamTree, ParamsTree}
 use Rattle.ob_tree.specs.Spelling.{stars, spell_spec, spell_name, spell_dims, listed, more_listed}
 use Rattle.ob_tree.specs.ProgramSpelling.{spell_param, spell_params}
 use Rattle.ob_tree.specs.Valid.{ValidOpenDims}
 use Rattle.ob_tree.specs.ProgramValid.{ValidParam, ValidParams}
-use Rattle.ob_tree.specs.Places.{here, place_spec, place_dims, width_name, width_spec, width_dims}
-use Rattle.ob_tree.specs.ProgramPlaces.{width_param, place_param, place_list}
-use Rattle.ob_tree.specs.Paths.{begun_spec, begun_dims, height_spec, height_dims}
-use Rattle.ob_tree.specs.ProgramPaths.{begun_param, begun_list, begun_params, height_param, height_list, height_params}
+use Rattle.ob_tree.specs.Places.{here, place_spec, width_name, width_spec}
+use Rattle.ob_tree.specs.ProgramPlaces.{width_param, place_param}
+use Rattle.ob_tree.specs.Paths.{begun_spec, begun_dims, height_spec}
+use Rattle.ob_tree.specs.ProgramPaths.{begun_param, begun_list, begun_params, height_param}
 use Rattle.ob_tree.proofs.Machine as reader
 use Rattle.ob_tree.proofs.FirstTokens.{FirstOf, first-more, first-spec, BeginsSpec}
 use Rattle.ob_tree.proofs.SpecSteps.{length-stars}
 use Rattle.ob_tree.proofs.ProgramStates.{Declarator, Listing, OfParam, ForParam, State, Specifying, Dims, Params, NextParam, Param, Closed}
 use Rattle.ob_tree.proofs.ProgramParts.{add_param, params_of}
 use Rattle.ob_tree.proofs.ProgramMachine.{step, run}
-use Rattle.ob_tree.proofs.ProgramRuns.{Reads, arrives, restart, read-spec, spec-ends, EndsSpec, all-stars}
+use Rattle.ob_tree.proofs.ProgramRuns.{restart, read-spec, spec-ends, EndsSpec, all-stars}
 use Rattle.ob_tree.proofs.ProgramParams.{StartsDims, dims-start, first-starts, read-param}
 use Rattle.ob_exprs.proofs.Begun.{full-spec}
 use Rattle.ob_exprs.proofs.Heights.{spec-place}
 use Rattle.ob_parser.specs.Loads.{depth_in, declarator_load, listing_load, load}
 use Rattle.ob_parser.proofs.Adding.{params-height, list-height}
-use Rattle.ob_parser.proofs.Full.{full-param, param-place, list-place}
+use Rattle.ob_parser.proofs.Full.{full-param, param-place}
 use Rattle.ob_parser.proofs.Climbs.{Within, w-nothing, w-token, w-part, w-spelled, w-restart, w-stars, reach-specifier, reach-open-dims}
 
 module _ (lines : ℕ → ℕ) (m : ℕ) where
@@ -67,8 +67,8 @@ module _ (lines : ℕ → ℕ) (m : ℕ) where
         (λ h. w-stars lines m starred (λ x y. refl) i k p 0 (omega (arith, h, length-stars i)) (λ j g. omega (arith, h, length-stars i, d)))
         (λ j h.
         (
-          let e : k - (i + width_name name) ≡ suc j - width_name name = omega (arith, h, length-stars i) in
-          named-reach i name ds (suc j) (p + i) v a (omega (arith, h, length-stars i, d)) (omega (arith, h, length-stars i, d, ap (begun_dims ds) e))
+        let e : k - (i + width_name name) ≡ suc j - width_name name = omega (arith, h, length-stars i) in
+        named-reach i name ds (suc j) (p + i) v a (omega (arith, h, length-stars i, d)) (omega (arith, h, length-stars i, d, ap (begun_dims ds) e))
         ))
 
     spec-reach : (i : ℕ) (name : Option (List ℕ)) (ds : DimTrees) (k p : ℕ) → FirstOf EndsSpec (stars i ++ (spell_name name ++ spell_dims ds)) → ValidOpenDims ds → listing_load l ≤ m
@@ -99,9 +99,9 @@ module _ (lines : ℕ → ℕ) (m : ℕ) where
       (read-spec lines u x.spec p v.0) (λ h. reach-specifier lines m u x.spec k p v.0 a (omega (arith, d)))
       (λ j h.
       (
-        let f : begun_spec x.spec k ≡ height_spec x.spec = full-spec x.spec k v.0 (omega arith) in
-        let e : k - (width_spec x.spec + x.stars + width_name x.name) ≡ suc j - (x.stars + width_name x.name) = omega arith in
-        behind-spec l p s' x.stars x.name x.dims j (p + width_spec x.spec) v.2 a (omega (arith, d, f, spec-place lines p x.spec)) (omega (arith, d, f, h, ap (begun_dims x.dims) e))
+      let f : begun_spec x.spec k ≡ height_spec x.spec = full-spec x.spec k v.0 (omega arith) in
+      let e : k - (width_spec x.spec + x.stars + width_name x.name) ≡ suc j - (x.stars + width_name x.name) = omega arith in
+      behind-spec l p s' x.stars x.name x.dims j (p + width_spec x.spec) v.2 a (omega (arith, d, f, spec-place lines p x.spec)) (omega (arith, d, f, h, ap (begun_dims x.dims) e))
       ))
 
   -- parameters up to the closing parenthesis, from a state that takes the first one's specifier
@@ -116,12 +116,12 @@ module _ (lines : ℕ → ℕ) (m : ℕ) where
       let first = first-more BeginsSpec (spell_spec x.spec) (stars x.stars ++ (spell_name x.name ++ spell_dims x.dims)) (first-spec x.spec v.0) in
       let end = Closed l.function (params_of (l.params ++ x' ∷ [])) in
       w-spelled lines m k p (spell_param x ++ kind.Sign sign.CloseParen ∷ []) ((spell_param x ++ []) ++ kind.Sign sign.CloseParen ∷ []) s (sym (append_assoc (spell_param x) [] (kind.Sign sign.CloseParen ∷ []))) (
-        w-part lines m (spell_param x) (kind.Sign sign.CloseParen ∷ []) k p (p + width_param x) s r.behind (restart start BeginsSpec first same r.reads)
-        (λ h. w-restart lines m start BeginsSpec (spell_param x) k p s first same z (λ j e. reach-param l x (suc j) p v a (omega (arith, d, ap (begun_param x) e))))
-        (λ j h.
-        w-token lines m (kind.Sign sign.CloseParen) [] (suc j) (p + width_param x) (p + width_param x + 1) r.behind end (λ e. (let g : ⊥ = omega arith in absurd g))
-        (r.ends (here lines (p + width_param x)) (kind.Sign sign.CloseParen) tt) refl
-        (λ i e. w-nothing lines m i (p + width_param x + 1) end (omega (arith, d, params-height l.params x', param-place lines p x, full-param x k v (omega arith)))))
+      w-part lines m (spell_param x) (kind.Sign sign.CloseParen ∷ []) k p (p + width_param x) s r.behind (restart start BeginsSpec first same r.reads)
+      (λ h. w-restart lines m start BeginsSpec (spell_param x) k p s first same z (λ j e. reach-param l x (suc j) p v a (omega (arith, d, ap (begun_param x) e))))
+      (λ j h.
+      w-token lines m (kind.Sign sign.CloseParen) [] (suc j) (p + width_param x) (p + width_param x + 1) r.behind end (λ e. (let g : ⊥ = omega arith in absurd g))
+      (r.ends (here lines (p + width_param x)) (kind.Sign sign.CloseParen) tt) refl
+      (λ i e. w-nothing lines m i (p + width_param x + 1) end (omega (arith, d, params-height l.params x', param-place lines p x, full-param x k v (omega arith)))))
       )
   reach-list x (y ∷ ys) l s k p same v w z a d =
       let r = read-param lines l x p v in
@@ -132,18 +132,18 @@ module _ (lines : ℕ → ℕ) (m : ℕ) where
       let rest = listed spell_param (y ∷ ys) ++ kind.Sign sign.CloseParen ∷ [] in
       w-spelled lines m k p (spell_param x ++ kind.Sign sign.Comma ∷ rest) (listed spell_param (x ∷ (y ∷ ys)) ++ kind.Sign sign.CloseParen ∷ []) s
       (sym (append_assoc (spell_param x) (more_listed spell_param (y ∷ ys)) (kind.Sign sign.CloseParen ∷ []))) (
-        w-part lines m (spell_param x) (kind.Sign sign.Comma ∷ rest) k p (p + width_param x) s r.behind (restart start BeginsSpec first same r.reads)
-        (λ h. w-restart lines m start BeginsSpec (spell_param x) k p s first same z (λ j e. reach-param l x (suc j) p v a (omega (arith, d, ap (begun_param x) e))))
-        (λ j h.
-        w-token lines m (kind.Sign sign.Comma) rest (suc j) (p + width_param x) q r.behind (NextParam (add_param l x')) (λ e. (let g : ⊥ = omega arith in absurd g))
-        (r.ends (here lines (p + width_param x)) (kind.Sign sign.Comma) tt) refl
-        (λ i e.
-        (
-          let f : begun_param x k ≡ height_param x = full-param x k v (omega arith) in
-          let la : listing_load (add_param l x') ≤ m = omega (arith, a, d, f, list-height l.params x', param-place lines p x) in
-          let b : k - (width_param x + 1) ≡ i = omega arith in
-          reach-list y ys (add_param l x') (NextParam (add_param l x')) i q (λ c g. refl) w.0 w.1 (λ g. la) la (omega (arith, d, ap (begun_list (y ∷ ys)) b))
-        )))
+      w-part lines m (spell_param x) (kind.Sign sign.Comma ∷ rest) k p (p + width_param x) s r.behind (restart start BeginsSpec first same r.reads)
+      (λ h. w-restart lines m start BeginsSpec (spell_param x) k p s first same z (λ j e. reach-param l x (suc j) p v a (omega (arith, d, ap (begun_param x) e))))
+      (λ j h.
+      w-token lines m (kind.Sign sign.Comma) rest (suc j) (p + width_param x) q r.behind (NextParam (add_param l x')) (λ e. (let g : ⊥ = omega arith in absurd g))
+      (r.ends (here lines (p + width_param x)) (kind.Sign sign.Comma) tt) refl
+      (λ i e.
+      (
+      let f : begun_param x k ≡ height_param x = full-param x k v (omega arith) in
+      let la : listing_load (add_param l x') ≤ m = omega (arith, a, d, f, list-height l.params x', param-place lines p x) in
+      let b : k - (width_param x + 1) ≡ i = omega arith in
+      reach-list y ys (add_param l x') (NextParam (add_param l x')) i q (λ c g. refl) w.0 w.1 (λ g. la) la (omega (arith, d, ap (begun_list (y ∷ ys)) b))
+      )))
       )
 
   pub reach-params : (x : Declarator) (ps : ParamsTree) (k p : ℕ) → ValidParams ps → declarator_load x ≤ m → depth_in x.declaration + begun_params ps k ≤ m

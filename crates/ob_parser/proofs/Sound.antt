@@ -1,28 +1,23 @@
 -- Each step of the machine through declarations keeps the shape of what it holds and spells one token more.
-use Rattle.std.proofs.Common.{◌≡◌, ℕ, zero, suc, ◌+◌, ◌≤◌, List, [], ◌∷◌, ◌++◌, length, Bool, true, false, Option, Some, None, refl, sym, ◌∙◌, ap, subst, arith, append_assoc, append-nil}
+use Rattle.std.proofs.Common.{◌≡◌, ℕ, zero, suc, ◌+◌, List, [], ◌∷◌, ◌++◌, Bool, true, false, Option, Some, None, refl, sym, ◌∙◌, ap, subst, arith, append_assoc, append-nil}
 use Rattle.std.specs.Prelude.{cond}
 use Rattle.std.specs.List.{AllByRecursion}
 use Rattle.ob_tree.specs.declared.tokens.TokenKind.{TokenKind}
 use Rattle.ob_tree.specs.declared.tokens.TokenKind.TheVariants as kind
-use Rattle.ob_tree.specs.declared.tokens.Keyword.{Keyword}
-use Rattle.ob_tree.specs.declared.tokens.Keyword.TheVariants as word
 use Rattle.ob_tree.specs.declared.tokens.Sign.TheVariants as sign
-use Rattle.ob_tree.specs.Trees.{Mark, ExprTree, SpecTree, ObjTree, ObjTrees, DimTrees, InitTree}
-use Rattle.ob_tree.specs.Programs.{LocalTree, ParamTree, ParamsTree, FileTree, ItemTree}
-use Rattle.ob_tree.specs.Spelling.{stars, spell, spell_spec, spell_name, spell_obj, spell_objs, spell_more_objs, spell_dims, spell_init, listed, more_listed}
-use Rattle.ob_tree.specs.ProgramSpelling.{spell_static, spell_local, spell_block, spell_param, spell_params, spell_file, spell_item, spell_program}
-use Rattle.ob_tree.specs.Valid.{ValidSpec, ValidDims, ValidOpenDims, ValidInit, ValidObjs, ValidName, IsOfSource, IsOf}
-use Rattle.ob_tree.specs.ProgramValid.{DeclaresTag, HasTag, ValidNames, ValidLocal, ValidParam, ValidParams, AreNamed, ValidFile, ValidFiles, ValidItem, is_void_alone}
-use Rattle.ob_tree.proofs.Machine as reader
-use Rattle.ob_tree.proofs.ProgramStates.{Definition, Frame, InBody, InBlock, Owner, Outer, Inner, Start, Heading, Declaration, Declarator, Listing, Head, OfName, OfParam, Target, Braces, SpecUse, ForDeclaration, ForParam, ForTest, Length, Item, State, Items, Specifying, Declare, Dims, Optional, Init, AfterInit, Params, NextParam, Param, Closed, Begin}
-use Rattle.ob_tree.proofs.ProgramParts.{add_local, add_init, add_name, add_param, is_tagged, declares_tag, has_lengths, has_dims, is_first, are_all_named, are_named, params_of, objects, local_of, item_of, bare, initial, function}
-use Rattle.ob_tree.proofs.ProgramMachine.{end_declaration, next_name, declare, first_name, parameters, after_name, next_param, after_param, after_dims, param, specified, specify_to, specify, begin_param, first_param, heading, begin_declaration, begin_body, closed, next_init, initialised}
+use Rattle.ob_tree.specs.Trees.{Mark, SpecTree, DimTrees}
+use Rattle.ob_tree.specs.Programs.{LocalTree, ParamTree, FileTree, ItemTree}
+use Rattle.ob_tree.specs.Spelling.{stars, spell_spec, spell_name, spell_obj, spell_objs, spell_more_objs, spell_dims, listed, more_listed}
+use Rattle.ob_tree.specs.ProgramSpelling.{spell_static, spell_local, spell_block, spell_param, spell_file, spell_program}
+use Rattle.ob_tree.specs.Valid.{ValidSpec, ValidDims, ValidOpenDims, ValidObjs, IsOfSource}
+use Rattle.ob_tree.specs.ProgramValid.{DeclaresTag, HasTag, ValidNames, ValidParam, ValidFile, ValidFiles, ValidItem}
+use Rattle.ob_tree.proofs.ProgramStates.{Owner, Outer, Inner, Start, Heading, Declaration, Declarator, Listing, Head, OfName, OfParam, State}
+use Rattle.ob_tree.proofs.ProgramParts.{add_name, add_param, is_tagged, declares_tag, has_lengths, has_dims, objects, bare}
+use Rattle.ob_tree.proofs.ProgramMachine.{end_declaration, next_name, declare, first_name, parameters, after_name, next_param, after_dims, param}
 use Rattle.ob_tree.proofs.ProgramNames.{IsOuter, MayDeclare}
-use Rattle.ob_exprs.proofs.Shapes as expr
 use Rattle.ob_exprs.proofs.Sound.{name-of}
-use Rattle.ob_exprs.proofs.SoundSpecs.{step-good}
-use Rattle.ob_parser.proofs.Shapes.{names_before, params_before, inits_before, for_open, stack_spell, owner_spell, heading_spell, declaration_spell, declarator_spell, listing_spell, head_spell, lists_spell, spec_use_spell, state_spell, OwnerOk, MayBe, HeadingOk, DeclarationOk, DeclaratorOk, ListingOk, HeadOk, TargetOk, SpecUseOk, StateOk}
-use Rattle.ob_parser.proofs.Adding.{local-spelled, local-valid, item-spelled, all-more, name-spelled, names-more, params-spelled, params-more, params-valid, init-spelled, inits-more, init-valid, init-some}
+use Rattle.ob_parser.proofs.Shapes.{names_before, params_before, for_open, stack_spell, owner_spell, heading_spell, declaration_spell, declarator_spell, listing_spell, head_spell, state_spell, OwnerOk, MayBe, HeadingOk, DeclarationOk, DeclaratorOk, ListingOk, HeadOk, StateOk}
+use Rattle.ob_parser.proofs.Adding.{local-spelled, local-valid, item-spelled, all-more, name-spelled, names-more, params-spelled, params-more, params-valid}
 
 -- the next state, where there is one, has the shape and spells one token more
 abbrev pub Good : List TokenKind → TokenKind → Option State → Type 0
@@ -86,8 +81,8 @@ end-good (Inner g h items fs) f n fixed s xs ok b v m w =
     ap (λ ks. spell_static fixed ++ (spell_spec s ++ (ks ++ kind.Sign sign.Semi ∷ []))) (all-objects o xs (λ x. x) m) in (
       (tt, (local-valid items l ok.0 (v, valid-names o s xs (λ x. x) m w), ok.1, ok.2)),
       ap (λ ks. stack_spell fs ++ kind.Sign sign.OpenBrace ∷ ks) (local-spelled items l ∙ ap (λ ks. spell_block items ++ ks) e)
-      ∙ sym (append_assoc (stack_spell fs) (kind.Sign sign.OpenBrace ∷ spell_block items) (spell_static fixed ++ (spell_spec s ++ (listed spell_file xs ++ kind.Sign sign.Semi ∷ []))))
-      ∙ regroup (owner_spell o) (spell_static fixed) (spell_spec s) (listed spell_file xs) (kind.Sign sign.Semi),
+          ∙ sym (append_assoc (stack_spell fs) (kind.Sign sign.OpenBrace ∷ spell_block items) (spell_static fixed ++ (spell_spec s ++ (listed spell_file xs ++ kind.Sign sign.Semi ∷ []))))
+          ∙ regroup (owner_spell o) (spell_static fixed) (spell_spec s) (listed spell_file xs) (kind.Sign sign.Semi),
     )
 end-good (Start g h fs) f n fixed s xs ok b v m w =
     let o = Start g h fs in
@@ -96,8 +91,8 @@ end-good (Start g h fs) f n fixed s xs ok b v m w =
     ap (λ ks. spell_static fixed ++ (spell_spec s ++ (ks ++ kind.Sign sign.Semi ∷ []))) (all-objects o xs (λ x. x) m) in (
       (ok.0, ok.1, (b, (v, valid-names o s xs (λ x. x) m w))),
       ap (λ ks. stack_spell fs ++ (for_open ++ ks)) e
-      ∙ sym (append_assoc (stack_spell fs) for_open (spell_static fixed ++ (spell_spec s ++ (listed spell_file xs ++ kind.Sign sign.Semi ∷ []))))
-      ∙ regroup (owner_spell o) (spell_static fixed) (spell_spec s) (listed spell_file xs) (kind.Sign sign.Semi),
+          ∙ sym (append_assoc (stack_spell fs) for_open (spell_static fixed ++ (spell_spec s ++ (listed spell_file xs ++ kind.Sign sign.Semi ∷ []))))
+          ∙ regroup (owner_spell o) (spell_static fixed) (spell_spec s) (listed spell_file xs) (kind.Sign sign.Semi),
     )
 
 -- behind a declarator
@@ -213,7 +208,7 @@ next-param-good : (k : TokenKind) (l : Listing) (x : ParamTree) → ListingOk l 
 next-param-good (kind.Sign sign.Comma) l x ok v = (
   (ok.0, ok.1, all-more ValidParam l.params x ok.2 v),
   ap (λ ks. declarator_spell l.function ++ kind.Sign sign.OpenParen ∷ ks) (params-more l.params x)
-  ∙ groups (declarator_spell l.function) (kind.Sign sign.OpenParen) (params_before l.params) (spell_param x) (kind.Sign sign.Comma ∷ []),
+      ∙ groups (declarator_spell l.function) (kind.Sign sign.OpenParen) (params_before l.params) (spell_param x) (kind.Sign sign.Comma ∷ []),
 )
   where
     groups : (d : List TokenKind) (o : TokenKind) (p x c : List TokenKind) → d ++ o ∷ (p ++ (x ++ c)) ≡ ((d ++ o ∷ p) ++ x) ++ c
@@ -221,7 +216,7 @@ next-param-good (kind.Sign sign.Comma) l x ok v = (
 next-param-good (kind.Sign sign.CloseParen) l x ok v = (
   (ok.0, ok.1, params-valid l.params x ok.2 v),
   ap (λ ks. declarator_spell l.function ++ kind.Sign sign.OpenParen ∷ (ks ++ kind.Sign sign.CloseParen ∷ [])) (params-spelled l.params x)
-  ∙ groups (declarator_spell l.function) (kind.Sign sign.OpenParen) (params_before l.params) (spell_param x) (kind.Sign sign.CloseParen ∷ []),
+      ∙ groups (declarator_spell l.function) (kind.Sign sign.OpenParen) (params_before l.params) (spell_param x) (kind.Sign sign.CloseParen ∷ []),
 )
   where
     groups : (d : List TokenKind) (o : TokenKind) (p x c : List TokenKind) → d ++ o ∷ ((p ++ x) ++ c) ≡ ((d ++ o ∷ p) ++ x) ++ c

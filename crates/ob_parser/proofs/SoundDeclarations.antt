@@ -1,27 +1,27 @@
 -- Each step of the machine through specifiers, function declarators and initialisers keeps the shape of what it
 -- holds and spells one token more.
-use Rattle.std.proofs.Common.{◌≡◌, ℕ, zero, suc, ◌+◌, ◌≤◌, List, [], ◌∷◌, ◌++◌, length, Bool, true, false, Option, Some, None, refl, sym, ◌∙◌, ap, subst, arith, append_assoc, append-nil}
+use Rattle.std.proofs.Common.{◌≡◌, ℕ, List, [], ◌∷◌, ◌++◌, Bool, true, false, Option, Some, None, refl, sym, ◌∙◌, ap, arith, append_assoc, append-nil}
 use Rattle.std.specs.Prelude.{cond, ◌&&◌}
 use Rattle.std.specs.List.{AllByRecursion}
 use Rattle.ob_tree.specs.declared.tokens.TokenKind.{TokenKind}
 use Rattle.ob_tree.specs.declared.tokens.TokenKind.TheVariants as kind
 use Rattle.ob_tree.specs.declared.tokens.Keyword.TheVariants as word
 use Rattle.ob_tree.specs.declared.tokens.Sign.TheVariants as sign
-use Rattle.ob_tree.specs.Trees.{Mark, SpecTree, DimTrees, InitTree, InitTrees}
+use Rattle.ob_tree.specs.Trees.{Mark, SpecTree, InitTree}
 use Rattle.ob_tree.specs.Programs.{ParamTree, ParamsTree, FileTree}
 use Rattle.ob_tree.specs.Spelling.{stars, spell_spec, spell_dims, spell_init, spell_inits}
 use Rattle.ob_tree.specs.ProgramSpelling.{spell_static, spell_params, spell_file, spell_program}
 use Rattle.ob_tree.specs.Valid.{ValidSpec, ValidInit, ValidInits, IsOfSource}
 use Rattle.ob_tree.specs.ProgramValid.{HasTag, ValidParams, AreNamed}
 use Rattle.ob_tree.proofs.Machine as reader
-use Rattle.ob_tree.proofs.ProgramStates.{Owner, Outer, Inner, Start, Heading, Declaration, Declarator, Listing, Target, Braces, SpecUse, ForDeclaration, ForParam, State, Specifying, AfterInit, Closed}
+use Rattle.ob_tree.proofs.ProgramStates.{Owner, Outer, Inner, Start, Declarator, Listing, Target, Braces, SpecUse, ForDeclaration, ForParam, AfterInit}
 use Rattle.ob_tree.proofs.ProgramParts.{add_init, add_name, is_tagged, is_first, are_all_named, are_named, initial, function, has_items, at_brace}
 use Rattle.ob_tree.proofs.ProgramMachine.{next_name, specified, specify_to, specify, begin_param, first_param, heading, begin_declaration, begin_body, closed, next_init, initialised, last_comma}
 use Rattle.ob_tree.proofs.ProgramNames.{IsOuter}
 use Rattle.ob_exprs.proofs.Shapes as expr
 use Rattle.ob_exprs.proofs.Sound as expr_sound
 use Rattle.ob_exprs.proofs.SoundSpecs.{step-good}
-use Rattle.ob_parser.proofs.Shapes.{params_before, inits_before, owner_spell, heading_spell, declaration_spell, declarator_spell, listing_spell, lists_spell, spec_use_spell, OwnerOk, MayBe, DeclarationOk, DeclaratorOk, ListingOk, TargetOk, SpecUseOk}
+use Rattle.ob_parser.proofs.Shapes.{params_before, inits_before, owner_spell, declaration_spell, declarator_spell, listing_spell, lists_spell, spec_use_spell, OwnerOk, MayBe, DeclaratorOk, ListingOk, TargetOk, SpecUseOk}
 use Rattle.ob_parser.proofs.Adding.{init-spelled, inits-more, init-valid, init-some, comma-spelled, some-items}
 use Rattle.ob_parser.proofs.Sound.{Good, same-good, cond-good, first-good, next-good, param-good}
 
@@ -72,7 +72,7 @@ pub first-param-good : (m : Mark) (k : TokenKind) (l : Listing) → IsOfSource k
 first-param-good m (kind.Sign sign.CloseParen) l t ok e = (
   (ok.0, ok.1, tt),
   sym (append_assoc (declarator_spell l.function) (kind.Sign sign.OpenParen ∷ []) (kind.Sign sign.CloseParen ∷ []))
-  ∙ ap (λ xs. (declarator_spell l.function ++ kind.Sign sign.OpenParen ∷ params_before xs) ++ kind.Sign sign.CloseParen ∷ []) (sym e),
+      ∙ ap (λ xs. (declarator_spell l.function ++ kind.Sign sign.OpenParen ∷ params_before xs) ++ kind.Sign sign.CloseParen ∷ []) (sym e),
 )
 first-param-good m (kind.Sign s) l t ok e = begin-param-good m (kind.Sign s) l t ok
 first-param-good m k l t ok e = begin-param-good m k l t ok
@@ -96,6 +96,7 @@ all-named (x ∷ xs) h = both (is_tagged x.name) (are_all_named xs) h (named x.n
     named : (name : Option (List ℕ)) → is_tagged name ≡ true → HasTag name
     named None h = let e : false ≡ true = h in cc
     named (Some n) h = tt
+
     both : (a b : Bool) → (a && b) ≡ true → (a ≡ true → HasTag x.name) → (b ≡ true → AllByRecursion (λ x. HasTag x.name) xs) → HasTag x.name × AllByRecursion (λ x. HasTag x.name) xs
     both true true h f g = (f refl, g refl)
     both true false h f g = let e : false ≡ true = h in cc
@@ -165,7 +166,7 @@ list-good (kind.Sign sign.Comma) t is b i ok v w = (
 list-good (kind.Sign sign.CloseBrace) t is b i ok v w = (
   (ok, v.1, (init-some b.items i, init-valid b.items i v.0 w)),
   ap (λ ks. lists_spell t is ++ kind.Sign sign.OpenBrace ∷ (ks ++ kind.Sign sign.CloseBrace ∷ [])) (init-spelled b.items i)
-  ∙ groups (lists_spell t is) (kind.Sign sign.OpenBrace) (inits_before b.items) (spell_init i) (kind.Sign sign.CloseBrace ∷ []),
+      ∙ groups (lists_spell t is) (kind.Sign sign.OpenBrace) (inits_before b.items) (spell_init i) (kind.Sign sign.CloseBrace ∷ []),
 )
   where
     groups : (l : List TokenKind) (o : TokenKind) (b i c : List TokenKind) → l ++ o ∷ ((b ++ i) ++ c) ≡ ((l ++ o ∷ b) ++ i) ++ c
@@ -195,7 +196,7 @@ comma-good k t (b ∷ is) ok v = cond-good (lists_spell t (b ∷ is)) k (has_ite
     brace (kind.Sign sign.CloseBrace) h = (
       (ok, v.1, (some-items b.items h, v.0)),
       ap (λ ks. lists_spell t is ++ kind.Sign sign.OpenBrace ∷ ks) (sym (append_assoc (spell_inits b.items) (kind.Sign sign.Comma ∷ []) (kind.Sign sign.CloseBrace ∷ [])) ∙ ap (λ ks. ks ++ kind.Sign sign.CloseBrace ∷ []) (sym (comma-spelled b.items h)))
-      ∙ sym (append_assoc (lists_spell t is) (kind.Sign sign.OpenBrace ∷ inits_before b.items) (kind.Sign sign.CloseBrace ∷ [])),
+          ∙ sym (append_assoc (lists_spell t is) (kind.Sign sign.OpenBrace ∷ inits_before b.items) (kind.Sign sign.CloseBrace ∷ [])),
     )
     brace (kind.Sign s) h = tt
     brace k h = tt

@@ -1,6 +1,6 @@
 -- Each step of the machine through statements keeps the shape of what it holds and spells one token more; so does
 -- each step that it takes.
-use Rattle.std.proofs.Common.{◌≡◌, ℕ, zero, suc, ◌+◌, ◌≤◌, max, List, [], ◌∷◌, ◌++◌, length, Bool, true, false, Option, Some, None, refl, sym, ◌∙◌, ap, subst, arith, append_assoc, append-nil}
+use Rattle.std.proofs.Common.{◌≡◌, ℕ, ◌≤◌, List, [], ◌∷◌, ◌++◌, Bool, true, false, Option, Some, None, refl, sym, ◌∙◌, ap, subst, arith, append_assoc, append-nil}
 use Rattle.std.specs.Prelude.{cond}
 use Rattle.std.specs.List.{AllByRecursion}
 use Rattle.ob_tree.specs.declared.tokens.TokenKind.{TokenKind}
@@ -8,17 +8,16 @@ use Rattle.ob_tree.specs.declared.tokens.TokenKind.TheVariants as kind
 use Rattle.ob_tree.specs.declared.tokens.Keyword.{Keyword}
 use Rattle.ob_tree.specs.declared.tokens.Keyword.TheVariants as word
 use Rattle.ob_tree.specs.declared.tokens.Sign.TheVariants as sign
-use Rattle.ob_tree.specs.Trees.{Mark, ExprTree, DimTrees, InitTree, InitTrees}
-use Rattle.ob_tree.specs.Programs.{StartTree, StmtTree, BlockTrees, ItemTree, ProgramTree}
+use Rattle.ob_tree.specs.Trees.{Mark, ExprTree, DimTrees, InitTree}
+use Rattle.ob_tree.specs.Programs.{StartTree, StmtTree, BlockTrees, ItemTree}
 use Rattle.ob_tree.specs.Spelling.{spell, spell_spec, spell_dims}
 use Rattle.ob_tree.specs.ProgramSpelling.{spell_option, spell_static, spell_start, spell_stmt, spell_block, spell_function, spell_program}
-use Rattle.ob_tree.specs.Valid.{Valid, ValidInits, IsOfSource, IsOf}
-use Rattle.ob_tree.specs.ProgramValid.{ValidOption, ValidStmt, ValidBlock, ValidItem, IsBlock, ends_in_if}
-use Rattle.ob_tree.specs.Places.{here}
+use Rattle.ob_tree.specs.Valid.{ValidInits, IsOfSource, IsOf}
+use Rattle.ob_tree.specs.ProgramValid.{ValidOption, ValidStmt, ValidItem, IsBlock, ends_in_if}
 use Rattle.ob_tree.proofs.Machine as reader
-use Rattle.ob_tree.proofs.ProgramStates.{Definition, Frame, InBody, InBlock, InIf, InElse, InWhile, InDo, InFor, Owner, Outer, Inner, Start, ForDeclaration, Head, Target, Braces, Use, Statement, IfTest, WhileTest, DoTest, ForStart, ForTest, ForNext, Return, Length, Item, State, Items, Specifying, Declare, Dims, Optional, Reading, Init, AfterInit, Params, NextParam, Param, Closed, Begin, Opening, ForWord, ForOpen, Semi, Done}
+use Rattle.ob_tree.proofs.ProgramStates.{Definition, Frame, InBody, InBlock, InIf, InElse, InWhile, InDo, InFor, Outer, Inner, Start, ForDeclaration, Head, Target, Braces, Use, Statement, IfTest, WhileTest, DoTest, ForStart, ForTest, ForNext, Return, Length, Item, State, Items, Specifying, Declare, Dims, Optional, Reading, Init, AfterInit, Params, NextParam, Param, Closed, Begin, Opening, ForWord, ForOpen, Semi, Done}
 use Rattle.ob_tree.proofs.ProgramParts.{at_semi, at_open, at_close, at_bracket, at_while, add_statement}
-use Rattle.ob_tree.proofs.ProgramMachine.{use_level, first_length, used, read_to, read_whole, read, optional_to, optional, begin_init, heading, statement_word, statement, begins_declaration, begin_declaration, block_word, block_item, begin, for_word, for_start, specify, to_else, reduce, define, after_whole, done, step, run}
+use Rattle.ob_tree.proofs.ProgramMachine.{use_level, first_length, used, read_to, read_whole, read, optional_to, optional, begin_init, heading, statement_word, statement, begins_declaration, begin_declaration, block_item, begin, for_start, specify, to_else, reduce, define, after_whole, done, step}
 use Rattle.ob_tree.proofs.ProgramInits.{AtLevel}
 use Rattle.ob_exprs.proofs.Adding.{dims-added}
 use Rattle.ob_exprs.proofs.Kept.{reduce-kept}
@@ -27,7 +26,7 @@ use Rattle.ob_exprs.proofs.Sound as expr_sound
 use Rattle.ob_exprs.proofs.SoundSpecs.{step-good}
 use Rattle.ob_parser.proofs.Shapes.{if_open, while_open, for_open, stack_spell, head_spell, lists_spell, opening_spell, use_spell, semi_spell, state_spell, TakesStmt, Takes, IsUnder, Stands, HeadOk, TargetOk, IsTest, UseOk, SemiOk, StateOk}
 use Rattle.ob_parser.proofs.Adding.{statement-spelled, statement-valid, item-spelled, all-more, open-valid}
-use Rattle.ob_parser.proofs.Sound.{Good, same-good, cond-good, declare-good, dims-good, param-good}
+use Rattle.ob_parser.proofs.Sound.{Good, same-good, declare-good, dims-good, param-good}
 use Rattle.ob_parser.proofs.SoundDeclarations.{specify-good, begin-spec-good, begin-param-good, first-param-good, begin-declaration-good, closed-good, initialised-good, comma-good}
 
 -- a token that has to be this one
@@ -191,6 +190,7 @@ read-good m k u s t ok v = go (reader.step (use_level u) m k s) (step-good (use_
     ends (Some e) f =
         let r = f e refl in
         same-good (use_spell u ++ spell e) (use_spell u ++ expr.state_spell s) k (used k u (Some e)) (ap (λ ks. use_spell u ++ ks) r.spelled) (used-good k u (Some e) ok r.of)
+
     go : (o : Option reader.State) → expr_sound.Good (use_level u) (expr.state_spell s) k o → Good (use_spell u ++ expr.state_spell s) k (read_to k u s o)
     go (Some x) g = ((ok, g.0), ap (λ ks. use_spell u ++ ks) g.1 ∙ sym (append_assoc (use_spell u) (expr.state_spell s) (k ∷ [])))
     go None g = ends (reader.finish s) (λ e h. finish-read (use_level u) s e v h)

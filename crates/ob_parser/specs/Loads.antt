@@ -1,7 +1,6 @@
 -- How many nodes stand on the paths of what the machine holds that reads programs. Each statement that has begun
 -- is a node, a function with its body is one, and so is a declaration.
 use Rattle.std.specs.Prelude.{ℕ, ◌+◌, List, [], ◌∷◌, length, max}
-use Rattle.ob_tree.specs.Trees.{DimTrees}
 use Rattle.ob_tree.specs.Paths.{height, height_spec, height_dims, height_init, height_inits}
 use Rattle.ob_tree.specs.ProgramPaths.{height_option, height_start, height_stmt, height_block, height_list, height_params, height_function, height_files, height_program}
 use Rattle.ob_tree.proofs.ProgramStates.{Frame, InBody, InBlock, InIf, InElse, InWhile, InDo, InFor, Owner, Outer, Inner, Start, Declaration, Declarator, Listing, Head, OfName, OfParam, Target, Braces, SpecUse, ForDeclaration, ForParam, Use, Statement, IfTest, WhileTest, DoTest, ForStart, ForTest, ForNext, Return, Length, Item, State, Items, Specifying, Declare, Dims, Optional, Reading, Init, AfterInit, Params, NextParam, Param, Closed, Begin, Opening, ForWord, ForOpen, Semi, Done}

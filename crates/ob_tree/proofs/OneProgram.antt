@@ -27,26 +27,26 @@ all-named : (lines : ℕ → ℕ) (p : ℕ) (xs : List ParamTree) → AllByRecur
 all-named lines p [] h = refl
 all-named lines p (x ∷ xs) h = ap₂ (λ a b. a && b) (tagged x.name h.0) (all-named lines (p + width_param x + 1) xs h.1)
 
-params-named : (lines : ℕ → ℕ) (p : ℕ) (ps : ParamsTree) → AreNamed ps → are_named (place_params lines p ps) ≡ true
+pub params-named : (lines : ℕ → ℕ) (p : ℕ) (ps : ParamsTree) → AreNamed ps → are_named (place_params lines p ps) ≡ true
 params-named lines p ParamsTree.Empty h = refl
 params-named lines p ParamsTree.Void h = refl
 params-named lines p (ParamsTree.Listed xs) h = all-named lines p xs h
 
 -- Behind these items the state begins another one, and the program can end there.
-record Behind (items : ProgramTree) (s : State) : Type 0 where
-  next : (m : Mark) (k : TokenKind) → NotElse k → step m k s ≡ begin_declaration m k (Outer items)
-  whole : finish s ≡ Some items
+pub record Behind (items : ProgramTree) (s : State) : Type 0 where
+  pub next : (m : Mark) (k : TokenKind) → NotElse k → step m k s ≡ begin_declaration m k (Outer items)
+  pub whole : finish s ≡ Some items
 
-record ReadsItem (lines : ℕ → ℕ) (p : ℕ) (i : ItemTree) (items : ProgramTree) (s : State) : Type 0 where
-  state : State
-  reads : Reads lines p (spell_item i) s (p + width_item i) state
-  behind : Behind (items ++ place_item lines p i ∷ []) state
+pub record ReadsItem (lines : ℕ → ℕ) (p : ℕ) (i : ItemTree) (items : ProgramTree) (s : State) : Type 0 where
+  pub state : State
+  pub reads : Reads lines p (spell_item i) s (p + width_item i) state
+  pub behind : Behind (items ++ place_item lines p i ∷ []) state
 
 finish-items : (items : ProgramTree) (i : ItemTree) → finish (Items (items ++ i ∷ [])) ≡ Some (items ++ i ∷ [])
 finish-items [] i = refl
 finish-items (x ∷ xs) i = refl
 
-may-declare : (items : ProgramTree) (xs : List FileTree) → AllByRecursion (MayDeclare (Outer items)) xs
+pub may-declare : (items : ProgramTree) (xs : List FileTree) → AllByRecursion (MayDeclare (Outer items)) xs
 may-declare items [] = tt
 may-declare items (FileTree.Function n name a ps ∷ xs) = (tt, may-declare items xs)
 may-declare items (FileTree.Object o ∷ xs) = (tt, may-declare items xs)
@@ -91,7 +91,7 @@ module _ (lines : ℕ → ℕ) where
         behind = record { next = λ m k x. stmt-ends m k whole gs x; whole = refl };
       }
 
-  read-item : (i : ItemTree) (items : ProgramTree) (s : State) (p : ℕ) → ValidItem i
+  pub read-item : (i : ItemTree) (items : ProgramTree) (s : State) (p : ℕ) → ValidItem i
       → ((k : TokenKind) → BeginsDeclaration k → step (here lines p) k s ≡ begin_declaration (here lines p) k (Outer items))
       → ReadsItem lines p i items s
   read-item (ItemTree.Function f n fixed s stars name a ps (StmtTree.Block g b body)) items st p v same =

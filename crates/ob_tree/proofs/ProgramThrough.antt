@@ -25,7 +25,7 @@ use Rattle.ob_tree.proofs.ProgramDeclarations.{BeginsDeclaration, read-local, re
 
 -- The statement is the last part of what it stands in: the statements on its right side as frames, and the one at
 -- their end.
-abbrev pend : StmtTree → List Frame → StmtTree × List Frame
+abbrev pub pend : StmtTree → List Frame → StmtTree × List Frame
 pend (StmtTree.If f n c s) fs = pend s (InIf f n c ∷ fs)
 pend (StmtTree.IfElse f n c s t) fs = pend t (InElse f n c s ∷ fs)
 pend (StmtTree.While f n c s) fs = pend s (InWhile f n c ∷ fs)
@@ -70,7 +70,7 @@ pub stmt-ends : (m : Mark) (k : TokenKind) (s : StmtTree) (fs : List Frame) → 
     → step m k (after_stmt s fs) ≡ after_whole m k (reduce s fs).0 (reduce s fs).1
 stmt-ends m k s fs h = not-else m k (pend s fs).0 (pend s fs).1 h ∙ ap (λ r. after_whole m k r.0 r.1) (reduce-pend s fs)
 
-else-follows : (lines : ℕ → ℕ) (p : ℕ) (m : Mark) (s : StmtTree) (f n : ℕ) (c : ExprTree) (fs : List Frame) → ends_in_if s ≡ false
+pub else-follows : (lines : ℕ → ℕ) (p : ℕ) (m : Mark) (s : StmtTree) (f n : ℕ) (c : ExprTree) (fs : List Frame) → ends_in_if s ≡ false
     → step m (kind.Word word.Else) (after_stmt (place_stmt lines p s) (InIf f n c ∷ fs)) ≡ Some (Begin (InElse f n c (place_stmt lines p s) ∷ fs))
 else-follows lines p m s f n c fs h = else-pend (place_stmt lines p s) (InIf f n c ∷ fs) (ends-placed lines p s ∙ h)
 
@@ -84,7 +84,7 @@ StartsStmt (kind.Word w) = StartsWord w
 StartsStmt (kind.Sign sign.CloseBrace) = ⊥
 StartsStmt k = Unit {0}
 
-expr-starts : (k : TokenKind) → StartsExpr k → StartsStmt k
+pub expr-starts : (k : TokenKind) → StartsExpr k → StartsStmt k
 expr-starts (kind.Word word.Null) h = refl
 expr-starts (kind.Word word.Eof) h = refl
 expr-starts (kind.Word word.Sizeof) h = refl
@@ -93,7 +93,7 @@ expr-starts (kind.Sign sign.CloseBrace) h = absurd h
 expr-starts (kind.Sign s) h = tt
 expr-starts k h = tt
 
-expr-statement : (m : Mark) (k : TokenKind) (fs : List Frame) → StartsExpr k
+pub expr-statement : (m : Mark) (k : TokenKind) (fs : List Frame) → StartsExpr k
     → statement m k fs ≡ step m k (Reading (Statement m.first m.line fs) (expr.Operand []))
 expr-statement m (kind.Word word.Null) fs h = refl
 expr-statement m (kind.Word word.Eof) fs h = refl
@@ -103,7 +103,7 @@ expr-statement m (kind.Sign sign.OpenBrace) fs h = absurd h
 expr-statement m (kind.Sign s) fs h = optional-starts (Statement m.first m.line fs) m (kind.Sign s) h
 expr-statement m k fs h = optional-starts (Statement m.first m.line fs) m k h
 
-for-expr : (m : Mark) (k : TokenKind) (f n : ℕ) (fs : List Frame) → StartsExpr k
+pub for-expr : (m : Mark) (k : TokenKind) (f n : ℕ) (fs : List Frame) → StartsExpr k
     → step m k (ForOpen f n fs) ≡ step m k (Reading (ForStart f n fs) (expr.Operand []))
 for-expr m (kind.Word word.Null) f n fs h = refl
 for-expr m (kind.Word word.Eof) f n fs h = refl
@@ -117,14 +117,14 @@ block-word m word.Else f n items fs h = absurd h
 block-word m w f n items fs h =
     ap (λ b. cond b (begin_declaration m (kind.Word w) (Inner f n items fs)) (statement_word m w (InBlock f n items ∷ fs))) h
 
-block-statement : (m : Mark) (k : TokenKind) (f n : ℕ) (items : BlockTrees) (fs : List Frame) → StartsStmt k
+pub block-statement : (m : Mark) (k : TokenKind) (f n : ℕ) (items : BlockTrees) (fs : List Frame) → StartsStmt k
     → block_item m k f n items fs ≡ statement m k (InBlock f n items ∷ fs)
 block-statement m (kind.Word w) f n items fs h = block-word m w f n items fs h
 block-statement m (kind.Sign sign.CloseBrace) f n items fs h = absurd h
 block-statement m (kind.Sign s) f n items fs h = refl
 block-statement m k f n items fs h = refl
 
-block-declaration : (m : Mark) (k : TokenKind) (f n : ℕ) (items : BlockTrees) (fs : List Frame) → BeginsDeclaration k
+pub block-declaration : (m : Mark) (k : TokenKind) (f n : ℕ) (items : BlockTrees) (fs : List Frame) → BeginsDeclaration k
     → block_item m k f n items fs ≡ begin_declaration m k (Inner f n items fs)
 block-declaration m (kind.Word w) f n items fs h =
     ap (λ b. cond b (begin_declaration m (kind.Word w) (Inner f n items fs)) (statement_word m w (InBlock f n items ∷ fs))) h
@@ -135,7 +135,7 @@ declares-not-else (kind.Word word.Else) h = let e : false ≡ true = h in cc
 declares-not-else (kind.Word w) h = tt
 declares-not-else _ h = absurd h
 
-starts-not-else : (k : TokenKind) → StartsStmt k → NotElse k
+pub starts-not-else : (k : TokenKind) → StartsStmt k → NotElse k
 starts-not-else (kind.Word word.Else) h = absurd h
 starts-not-else (kind.Word w) h = tt
 starts-not-else k h = tt
@@ -163,7 +163,7 @@ block-stmt (BlockTrees.Statement x xs) s ys = ap (BlockTrees.Statement x) (block
 
 module _ (lines : ℕ → ℕ) where
   -- a test in its parentheses, and what follows it
-  read-test : {q : ℕ} {ys : List TokenKind} {r : State} → (u : Use) (c : ExprTree) (p a b : ℕ) (t : State) → IsOf (use_level u) c
+  pub read-test : {q : ℕ} {ys : List TokenKind} {r : State} → (u : Use) (c : ExprTree) (p a b : ℕ) (t : State) → IsOf (use_level u) c
       → used (kind.Sign sign.CloseParen) u (Some (place lines a c)) ≡ Some t → a ≡ p + 1 → b ≡ a + width c + 1 → Reads lines b ys t q r
       → Reads lines p (kind.Sign sign.OpenParen ∷ (spell c ++ kind.Sign sign.CloseParen ∷ ys)) (Opening u) q r
   read-test u c p a b t v e h g rest =
@@ -173,7 +173,7 @@ module _ (lines : ℕ → ℕ) where
       before rest
 
   -- the first part of a `for`, with its semicolon
-  read-start : (start : StartTree) (f n : ℕ) (fs : List Frame) (p q : ℕ) → ValidStart start → q ≡ p + width_start start
+  pub read-start : (start : StartTree) (f n : ℕ) (fs : List Frame) (p q : ℕ) → ValidStart start → q ≡ p + width_start start
       → Reads lines p (spell_start start) (ForOpen f n fs) q (Optional (ForTest f n (place_start lines p start) fs))
   read-start (StartTree.Expr None) f n fs p q v h = token (kind.Sign sign.Semi) q (Optional (ForTest f n (StartTree.Expr None) fs)) refl h
   read-start (StartTree.Expr (Some e)) f n fs p q v h =
