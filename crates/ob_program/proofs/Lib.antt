@@ -1,3 +1,4 @@
 pub mod Files
 pub mod Clauses
 pub mod Promises
+pub mod Numbers

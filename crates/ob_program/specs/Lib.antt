@@ -3,3 +3,5 @@ pub mod Job
 pub mod Lines
 pub mod Run
 pub mod Answer
+pub mod ExecJob
+pub mod ExecAnswer

@@ -46,7 +46,7 @@ impl Answer {
     }
 }
 
-fn modulo_128(number: i64) -> u8
+pub(crate) fn modulo_128(number: i64) -> u8
     ensures { result ≡ residue 128 number }
 {
     number.rem_euclid(128) as u8

@@ -116,7 +116,7 @@ fn words_and_sources(rt: HostRuntime) -> Result<(), Fail> {
         ("run", HELLO, "", USAGE, 128),
         ("run hello.c --steps 5 --steps 6", HELLO, "", USAGE, 128),
         ("run -hello.c", HELLO, "", USAGE, 128),
-        ("exec hello.c", HELLO, "", USAGE, 128),
+        ("exec hello.c", HELLO, "", "oblivious: BadImage Bytes 0\n", 135),
         ("", HELLO, "", USAGE, 128),
         ("run gone.c", HELLO, "", "oblivious: FileFault\n", 129),
         ("run hello.c hello.c", HELLO, "", USAGE, 128),
