@@ -33,7 +33,7 @@ use Rattle.ob_parser.proofs.Complete.{Completes, completes-same, empty, complete
 use Rattle.ob_parser.proofs.CompleteNames.{complete-init, complete-param, complete-head, complete-spec}
 
 -- a statement has a node, and the nodes above one have begun
-stmt-some : (s : StmtTree) → 1 ≤ height_stmt s
+pub stmt-some : (s : StmtTree) → 1 ≤ height_stmt s
 stmt-some (StmtTree.Block f n items) = omega arith
 stmt-some (StmtTree.Expr f n e) = omega arith
 stmt-some (StmtTree.If f n c s) = omega arith

@@ -158,7 +158,7 @@ record IsFinished (s : State) (t : ProgramTree) : Type 0 where
   limit : height_program t ≤ load s
 
 -- closing frames keeps the nodes
-reduce-load : (s : StmtTree) (fs : List Frame) → load (Done (reduce s fs).0 (reduce s fs).1) ≡ load (Done s fs)
+pub reduce-load : (s : StmtTree) (fs : List Frame) → load (Done (reduce s fs).0 (reduce s fs).1) ≡ load (Done s fs)
 reduce-load s (InIf f n c ∷ fs) = omega (arith, reduce-load (StmtTree.If f n c s) fs)
 reduce-load s (InElse f n c x ∷ fs) = omega (arith, reduce-load (StmtTree.IfElse f n c x s) fs)
 reduce-load s (InWhile f n c ∷ fs) = omega (arith, reduce-load (StmtTree.While f n c s) fs)
@@ -227,7 +227,7 @@ module _ (lines : ℕ → ℕ) where
   goes m None w = absurd w
   goes m (Some s) w = (s, refl, w)
 
-  goes-on : (ks : List TokenKind) → BeginsProgram (within 0) ks → (s : State) × (machine lines ks ≡ Some s) × (0 + load s ≤ 256)
+  pub goes-on : (ks : List TokenKind) → BeginsProgram (within 0) ks → (s : State) × (machine lines ks ≡ Some s) × (0 + load s ≤ 256)
   goes-on ks b =
       let n = begun_program b.whole (length ks) in
       let same : take (length ks) (spell_program b.whole) ≡ ks = ap (take (length ks)) b.spelled ∙ take-append_seam ks b.rest in
@@ -253,14 +253,14 @@ module _ (lines : ℕ → ℕ) where
       record { whole = w.whole; rest = w.rest; valid = w.valid; spelled = w.spelled; limit = tt }
 
   -- a program that is read whole is what the machine finishes with
-  finish-whole : (ks : List TokenKind) (t : ProgramTree) (s : State) → ValidProgram t → spell_program t ≡ ks → machine lines ks ≡ Some s → finish s ≡ Some (place_program lines 0 t)
+  pub finish-whole : (ks : List TokenKind) (t : ProgramTree) (s : State) → ValidProgram t → spell_program t ≡ ks → machine lines ks ≡ Some s → finish s ≡ Some (place_program lines 0 t)
   finish-whole ks t s v g e =
       let r = read-program lines t v in
       let q : Some r.state ≡ Some s = sym r.reads.runs ∙ ap (machine lines) g ∙ e in
       let f : r.state ≡ s = cc in
       subst (λ x. finish x ≡ Some (place_program lines 0 t)) f r.whole
 
-  some-tree : (ks : List TokenKind) (s : State) (t : ProgramTree) → All IsOfSource ks → machine lines ks ≡ Some s → 0 + load s ≤ 256 → finish s ≡ Some t
+  pub some-tree : (ks : List TokenKind) (s : State) (t : ProgramTree) → All IsOfSource ks → machine lines ks ≡ Some s → 0 + load s ≤ 256 → finish s ≡ Some t
       → IsProgram (within 0) ks t × PlacedProgram lines t
   some-tree ks s t a e l f =
       let k = machine-stays ks s a e in

@@ -14,3 +14,5 @@ pub mod ReachNames
 pub mod ReachStatements
 pub mod Exact
 pub mod OneAnswer
+pub mod Light
+pub mod Lifts

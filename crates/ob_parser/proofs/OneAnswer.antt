@@ -1,67 +1,144 @@
 -- A list of tokens has a right answer, and only one.
-use Rattle.std.proofs.Common.{◌≡◌, ℕ, ◌<◌, ◌≤◌, ◌⊎◌, inl, inr, List, [], length, refl, sym, ◌∙◌, ap, ap₂, subst, arith}
+use Rattle.std.proofs.Common.{◌≡◌, ℕ, zero, suc, ◌+◌, ◌-◌, ◌<◌, ◌≤◌, ◌⊎◌, inl, inr, List, [], ◌∷◌, ◌++◌, length, take, drop, take-append-drop, Some, refl, sym, ◌∙◌, ap, subst, arith}
 use Rattle.std.specs.List.{All}
 use Rattle.std.specs.Prelude.{map}
 use Rattle.std.proofs.lemmas.Bool.{cases_lt}
+use Rattle.std.proofs.lemmas.List.{map-append}
 use Rattle.ob_tree.specs.declared.tokens.Token.{Token}
 use Rattle.ob_tree.specs.Programs.{ProgramTree}
 use Rattle.ob_tree.specs.Valid.{IsOfSource}
 use Rattle.ob_tree.specs.Places.{here}
-use Rattle.ob_tree.specs.ProgramPlaces.{PlacedProgram}
-use Rattle.ob_tree.specs.Fronts.{kinds, lines, within}
-use Rattle.ob_tree.specs.ProgramFronts.{BeginsProgram, IsProgram, FrontProgram, DeepFrontProgram}
-use Rattle.ob_tree.specs.Answers.{IsLeastWithout, Stops, Verdict, Whole, NoTree, TooDeep}
+use Rattle.ob_tree.specs.ProgramPlaces.{PlacedProgram, place_program}
+use Rattle.ob_tree.specs.ProgramPaths.{height_program}
+use Rattle.ob_tree.specs.Fronts.{kinds, lines, within, any}
+use Rattle.ob_tree.specs.ProgramFronts.{BeginsProgram, IsProgram, FrontProgram, DeepFrontProgram, IsTreeOf}
+use Rattle.ob_tree.specs.Answers.{Verdict, Whole, IsVerdict}
 use Rattle.ob_tree.proofs.OneProgram.{one-program}
-use Rattle.ob_tree.proofs.ProgramStates.{Items}
+use Rattle.ob_tree.proofs.ProgramStates.{State, Items}
 use Rattle.ob_tree.proofs.ProgramMachine.{step, finish}
-use Rattle.ob_tree.proofs.Readings.{read, verdict, right}
+use Rattle.ob_tree.proofs.Readings.{read, verdict, right, all-kinds}
 use Rattle.ob_parser.specs.Loads.{load}
-use Rattle.ob_parser.specs.Answer.{IsAnswer}
-use Rattle.ob_parser.proofs.Exact.{machine, exact-program}
+use Rattle.ob_parser.specs.Answer.{Answer, IsFirst, IsAnswer}
+use Rattle.ob_parser.proofs.Most.{program-most}
+use Rattle.ob_parser.proofs.Exact.{machine, exact-program, goes-on, some-tree, finish-whole}
 
-pub some-answer : (ts : List Token) → All (λ t. IsOfSource t.kind) ts → (v : Verdict ProgramTree) × IsAnswer ts v
-some-answer ts all = (
-  verdict finish (read (λ q k s. step (here (lines ts) q) k s) load 0 0 (map (λ t. t.kind) ts) (Items [])),
-  right (λ q k s. step (here (lines ts) q) k s) load finish BeginsProgram IsProgram (PlacedProgram (lines ts)) 0 0 (machine (lines ts)) (exact-program (lines ts)) ts all ts 0 (Items []) refl (omega arith) (omega arith) refl (omega arith)
-      (λ j a b. absurd (omega arith)),
-)
+-- the right answer in the parser's terms, by the right verdict on how far programs go on
+module _ (ts : List Token) (all : All (λ t. IsOfSource t.kind) ts) where
+  abbrev Right : Verdict ProgramTree → Type 0
+  Right v = IsVerdict (FrontProgram ts) (DeepFrontProgram ts) 0 (length ts) (λ i p. IsProgram (within 0) (kinds ts 0 i) p) (PlacedProgram (lines ts)) v
 
-module _ (front deep : ℕ → Type 0) (from end : ℕ) where
-  same-least : (i j : ℕ) → IsLeastWithout front from end i → IsLeastWithout front from end j → i ≡ j
-  same-least i j a b = go (cases_lt i j) (cases_lt j i)
+  right-verdict : (v : Verdict ProgramTree) × Right v
+  right-verdict = (
+    verdict finish (read (λ q k s. step (here (lines ts) q) k s) load 0 0 (map (λ t. t.kind) ts) (Items [])),
+    right (λ q k s. step (here (lines ts) q) k s) load finish BeginsProgram IsProgram (PlacedProgram (lines ts)) 0 0 (machine (lines ts)) (exact-program (lines ts)) ts all ts 0 (Items []) refl (omega arith) (omega arith) refl (omega arith)
+        (λ j a b. absurd (omega arith)),
+  )
+
+  -- where programs begin with all tokens, the machine holds what keeps the limit behind them
+  at-end : (n : ℕ) → n ≡ length ts → ((j : ℕ) → 0 ≤ j → j < length ts → FrontProgram ts j) → (s : State) × (machine (lines ts) (kinds ts 0 n) ≡ Some s) × (0 + load s ≤ 256)
+  at-end zero e f = (Items [], refl, omega arith)
+  at-end (suc n) e f = go (f n (omega arith) (omega arith))
+    where
+      go : FrontProgram ts n → (s : State) × (machine (lines ts) (kinds ts 0 (suc n)) ≡ Some s) × (0 + load s ≤ 256)
+      go (inl b) =
+          let w : n + 1 ≡ suc n = omega arith in
+          subst (λ i. (s : State) × (machine (lines ts) (kinds ts 0 i) ≡ Some s) × (0 + load s ≤ 256)) w (goes-on (lines ts) (kinds ts 0 (n + 1)) b.1)
+      go (inr b) = absurd (omega (arith, b.0, e))
+
+  -- then no program that they are is too deep
+  not-deep : ((j : ℕ) → 0 ≤ j → j < length ts → FrontProgram ts j) → ((t : ProgramTree) → IsProgram (within 0) (kinds ts 0 (length ts)) t → ⊥) → (p : ProgramTree)
+      → IsProgram any (kinds ts 0 (length ts)) p → ⊥
+  not-deep f none p i =
+      let ks = kinds ts 0 (length ts) in
+      let s = at-end (length ts) refl f in
+      let w = finish-whole (lines ts) ks p s.0 i.valid i.spelled s.1 in
+      none (place_program (lines ts) 0 p) (some-tree (lines ts) ks s.0 (place_program (lines ts) 0 p) (all-kinds ts 0 (length ts) all) s.1 s.2 w).0
+
+  no-front-at-end : (i : ℕ) → i ≡ length ts → ((t : ProgramTree) → IsProgram (within 0) (kinds ts 0 i) t → ⊥) → FrontProgram ts i → ⊥
+  no-front-at-end i e none (inl b) = omega (arith, b.0, e)
+  no-front-at-end i e none (inr b) = none b.1.0 b.1.1
+
+  no-deep-at-end : (i : ℕ) → i ≡ length ts → ((t : ProgramTree) → IsProgram (within 0) (kinds ts 0 i) t → ⊥) → ((j : ℕ) → 0 ≤ j → j < length ts → FrontProgram ts j) → DeepFrontProgram ts i → ⊥
+  no-deep-at-end i e none f (inl b) = omega (arith, b.0, e)
+  no-deep-at-end i e none f (inr b) =
+      not-deep f (subst (λ n. (t : ProgramTree) → IsProgram (within 0) (kinds ts 0 n) t → ⊥) e none) b.1.0 (subst (λ n. IsProgram any (kinds ts 0 n) b.1.0) e b.1.1)
+
+  answer-of : (v : Verdict ProgramTree) → Right v → (answer : Answer) × IsAnswer ts answer
+  answer-of (Whole t i) (inr e, is, placed) =
+      (Answer.Parsed t, (record { valid = is.valid; placed = placed; spelled = is.spelled ∙ ap (kinds ts 0) e.0 }, omega (arith, is.limit)))
+  answer-of (Whole t i) (inl l, is, placed) =
+      (Answer.NoTree i, (record { within = omega (arith, l.0.below); before = λ j h. l.0.before j (omega arith) h; without = l.0.without }, l.1))
+  answer-of (Verdict.NoTree i) (inl l, none) =
+      (Answer.NoTree i, (record { within = omega (arith, l.0.below); before = λ j h. l.0.before j (omega arith) h; without = l.0.without }, l.1))
+  answer-of (Verdict.NoTree i) (inr e, none) = (
+    Answer.NoTree i,
+    (
+      record { within = omega (arith, e.0); before = λ j h. e.1 j (omega arith) (omega (arith, h, e.0)); without = no-front-at-end i e.0 none },
+      no-deep-at-end i e.0 none e.1,
+    ),
+  )
+  answer-of (Verdict.TooDeep i) h =
+      (Answer.TooDeep i, (record { within = omega (arith, h.0.below); before = λ j g. h.0.before j (omega arith) g; without = h.0.without }, h.1))
+
+  pub some-answer : (answer : Answer) × IsAnswer ts answer
+  some-answer = answer-of right-verdict.0 right-verdict.1
+
+-- only one answer is right
+module _ (ts : List Token) where
+  same-first : (i j : ℕ) → IsFirst ts i → IsFirst ts j → i ≡ j
+  same-first i j a b = go (cases_lt i j) (cases_lt j i)
     where
       go : (i < j) ⊎ (j ≤ i) → (j < i) ⊎ (i ≤ j) → i ≡ j
-      go (inl h) k = absurd (a.without (b.before i a.at_least h))
-      go (inr h) (inl k) = absurd (b.without (a.before j b.at_least k))
+      go (inl h) k = absurd (a.without (b.before i h))
+      go (inr h) (inl k) = absurd (b.without (a.before j k))
       go (inr h) (inr k) = omega arith
 
-  no-end : (i : ℕ) → IsLeastWithout front from end i → ((j : ℕ) → from ≤ j → j < end → front j) → ⊥
-  no-end i a f = a.without (f i a.at_least a.below)
+  first-kinds : (n : ℕ) → kinds ts 0 n ≡ map (λ t. t.kind) (take n ts)
+  first-kinds n = let e : n - 0 ≡ n = omega arith in ap (λ i. map (λ (t : Token). t.kind) (take i ts)) e
 
-  same-stop : (i j : ℕ) → Stops front deep from end i → Stops front deep from end j → i ≡ j
-  same-stop i j (inl a) (inl b) = same-least i j a.0 b.0
-  same-stop i j (inl a) (inr b) = absurd (no-end i a.0 b.1)
-  same-stop i j (inr a) (inl b) = absurd (no-end j b.0 a.1)
-  same-stop i j (inr a) (inr b) = a.0 ∙ sym b.0
+  all-first : kinds ts 0 (length ts) ≡ map (λ t. t.kind) ts
+  all-first = first-kinds (length ts) ∙ ap (map (λ (t : Token). t.kind)) (take-all ts)
+    where
+      take-all : (xs : List Token) → take (length xs) xs ≡ xs
+      take-all [] = refl
+      take-all (x ∷ xs) = ap (λ ys. x ∷ ys) (take-all xs)
 
-  not-both : (i j : ℕ) → Stops front deep from end i → IsLeastWithout front from end j → deep j → ⊥
-  not-both i j (inl a) b d = a.1 (subst deep (same-least j i b a.0) d)
-  not-both i j (inr a) b d = no-end j b a.1
+  parted : (n : ℕ) → kinds ts 0 (length ts) ≡ kinds ts 0 n ++ map (λ t. t.kind) (drop n ts)
+  parted n =
+      all-first
+      ∙ ap (map (λ (t : Token). t.kind)) (sym (take-append-drop n ts))
+      ∙ map-append (λ (t : Token). t.kind) (take n ts) (drop n ts)
+      ∙ ap (λ ks. ks ++ map (λ (t : Token). t.kind) (drop n ts)) (sym (first-kinds n))
 
-pub one-answer : (ts : List Token) (a b : Verdict ProgramTree) → IsAnswer ts a → IsAnswer ts b → a ≡ b
-one-answer ts (Whole p i) (Whole q j) v w =
-    let e = same-stop (FrontProgram ts) (DeepFrontProgram ts) 0 (length ts) i j v.0 w.0 in
-    let same = one-program (lines ts) p q v.1.valid w.1.valid v.2 w.2 (v.1.spelled ∙ ap (kinds ts 0) e ∙ sym w.1.spelled) in
-    ap₂ Whole same e
-one-answer ts (Whole p i) (NoTree j) v w =
-    let e = same-stop (FrontProgram ts) (DeepFrontProgram ts) 0 (length ts) i j v.0 w.0 in
-    absurd (w.1 p (subst (λ n. IsProgram (within 0) (kinds ts 0 n) p) e v.1))
-one-answer ts (NoTree i) (Whole q j) v w =
-    let e = same-stop (FrontProgram ts) (DeepFrontProgram ts) 0 (length ts) j i w.0 v.0 in
-    absurd (v.1 q (subst (λ n. IsProgram (within 0) (kinds ts 0 n) q) e w.1))
-one-answer ts (NoTree i) (NoTree j) v w = ap NoTree (same-stop (FrontProgram ts) (DeepFrontProgram ts) 0 (length ts) i j v.0 w.0)
-one-answer ts (TooDeep i) (TooDeep j) v w = ap TooDeep (same-least (FrontProgram ts) (DeepFrontProgram ts) 0 (length ts) i j v.0 w.0)
-one-answer ts (Whole p i) (TooDeep j) v w = absurd (not-both (FrontProgram ts) (DeepFrontProgram ts) 0 (length ts) i j v.0 w.0 w.1)
-one-answer ts (TooDeep i) (Whole q j) v w = absurd (not-both (FrontProgram ts) (DeepFrontProgram ts) 0 (length ts) j i w.0 v.0 v.1)
-one-answer ts (NoTree i) (TooDeep j) v w = absurd (not-both (FrontProgram ts) (DeepFrontProgram ts) 0 (length ts) i j v.0 w.0 w.1)
-one-answer ts (TooDeep i) (NoTree j) v w = absurd (not-both (FrontProgram ts) (DeepFrontProgram ts) 0 (length ts) j i w.0 v.0 v.1)
+  fronts : (p : ProgramTree) → IsTreeOf ts p → height_program p ≤ 256 → (j : ℕ) → j ≤ length ts → FrontProgram ts j
+  fronts p t h j l = go (cases_lt j (length ts))
+    where
+      go : (j < length ts) ⊎ (length ts ≤ j) → FrontProgram ts j
+      go (inl b) = inl (
+        b,
+        record {
+          whole = p;
+          rest = map (λ t. t.kind) (drop (j + 1) ts);
+          valid = t.valid;
+          spelled = t.spelled ∙ parted (j + 1);
+          limit = omega (arith, h, program-most p (length (kinds ts 0 (j + 1))));
+        },
+      )
+      go (inr b) =
+          let e : length ts ≡ j = omega arith in
+          inr (sym e, (p, record { valid = t.valid; spelled = t.spelled ∙ ap (kinds ts 0) e; limit = omega (arith, h) }))
+
+  not-first : (p : ProgramTree) (i : ℕ) → IsTreeOf ts p → height_program p ≤ 256 → IsFirst ts i → ⊥
+  not-first p i t h f = f.without (fronts p t h i f.within)
+
+  pub one-answer : (a b : Answer) → IsAnswer ts a → IsAnswer ts b → a ≡ b
+  one-answer (Answer.Parsed p) (Answer.Parsed q) v w =
+      ap Answer.Parsed (one-program (lines ts) p q v.0.valid w.0.valid v.0.placed w.0.placed (v.0.spelled ∙ sym w.0.spelled))
+  one-answer (Answer.NoTree i) (Answer.NoTree j) v w = ap Answer.NoTree (same-first i j v.0 w.0)
+  one-answer (Answer.TooDeep i) (Answer.TooDeep j) v w = ap Answer.TooDeep (same-first i j v.0 w.0)
+  one-answer (Answer.NoTree i) (Answer.TooDeep j) v w = absurd (v.1 (subst (DeepFrontProgram ts) (same-first j i w.0 v.0) w.1))
+  one-answer (Answer.TooDeep i) (Answer.NoTree j) v w = absurd (w.1 (subst (DeepFrontProgram ts) (same-first i j v.0 w.0) v.1))
+  one-answer (Answer.Parsed p) (Answer.NoTree i) v w = absurd (not-first p i v.0 v.1 w.0)
+  one-answer (Answer.Parsed p) (Answer.TooDeep i) v w = absurd (not-first p i v.0 v.1 w.0)
+  one-answer (Answer.NoTree i) (Answer.Parsed p) v w = absurd (not-first p i w.0 w.1 v.0)
+  one-answer (Answer.TooDeep i) (Answer.Parsed p) v w = absurd (not-first p i w.0 w.1 v.0)

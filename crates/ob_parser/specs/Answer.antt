@@ -1,14 +1,25 @@
 -- The answer that the parser of programs owes for a list of tokens.
-use Rattle.std.specs.Prelude.{List, length}
+use Rattle.std.specs.Prelude.{ℕ, ◌≤◌, ◌<◌, List, length}
 use Rattle.ob_tree.specs.declared.tokens.Token.{Token}
 use Rattle.ob_tree.specs.Programs.{ProgramTree}
-use Rattle.ob_tree.specs.ProgramPlaces.{PlacedProgram}
-use Rattle.ob_tree.specs.Fronts.{kinds, lines, within}
-use Rattle.ob_tree.specs.ProgramFronts.{IsProgram, FrontProgram, DeepFrontProgram}
-use Rattle.ob_tree.specs.Answers.{Verdict, IsVerdict}
+use Rattle.ob_tree.specs.ProgramPaths.{height_program}
+use Rattle.ob_tree.specs.Fronts.{greatest_path}
+use Rattle.ob_tree.specs.ProgramFronts.{FrontProgram, DeepFrontProgram, IsTreeOf}
 
--- The tokens up to the place where the parser stops are a program, which stands where they stand; or they are none;
--- or the parser stops where only programs that are too deep go on.
-abbrev pub IsAnswer : List Token → Verdict ProgramTree → Type 0
-IsAnswer tokens answer =
-    IsVerdict (FrontProgram tokens) (DeepFrontProgram tokens) 0 (length tokens) (λ i p. IsProgram (within 0) (kinds tokens 0 i) p) (PlacedProgram (lines tokens)) answer
+pub data Answer : Type 0 where
+  Parsed : (program : ProgramTree) → Answer
+  NoTree : (at : ℕ) → Answer
+  TooDeep : (at : ℕ) → Answer
+
+-- i is the least place without a front, that behind the last token included
+pub record IsFirst (tokens : List Token) (i : ℕ) : Type 0 where
+  pub within : i ≤ length tokens
+  pub before : (j : ℕ) → j < i → FrontProgram tokens j
+  pub without : FrontProgram tokens i → ⊥
+
+-- The answer is the program that the tokens are, if its paths keep the limit; else the first place where no program
+-- that keeps the limit goes on: too deep where a program goes on there that doesn't.
+abbrev pub IsAnswer : List Token → Answer → Type 0
+IsAnswer tokens (Answer.Parsed p) = IsTreeOf tokens p × (height_program p ≤ greatest_path)
+IsAnswer tokens (Answer.NoTree i) = IsFirst tokens i × (DeepFrontProgram tokens i → ⊥)
+IsAnswer tokens (Answer.TooDeep i) = IsFirst tokens i × DeepFrontProgram tokens i

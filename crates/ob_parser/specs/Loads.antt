@@ -115,3 +115,24 @@ load (ForWord f n fs) = max (load_stack fs) (length fs + 1)
 load (ForOpen f n fs) = max (load_stack fs) (length fs + 1)
 load (Semi s fs) = max (load_stack fs) (length fs + height_stmt s)
 load (Done s fs) = max (load_stack fs) (length fs + height_stmt s)
+
+-- The nodes on the path to what was read last: where it keeps the limit, and all did before, all do.
+abbrev pub newest : State → ℕ
+newest (Items items) = 0
+newest (Specifying u s) = spec_depth u + expr.load s
+newest (Declare d n) = depth_in d + n
+newest (Dims h ds) = 0
+newest (Optional u) = use_depth u
+newest (Reading u s) = use_depth u + expr.load s
+newest (Init t is) = target_depth t + length is
+newest (AfterInit t is i) = 0
+newest (Params l) = 0
+newest (NextParam l) = 0
+newest (Param l f n s i) = depth_in l.function.declaration + i
+newest (Closed x ps) = 0
+newest (Begin fs) = length fs
+newest (Opening u) = use_depth u
+newest (ForWord f n fs) = length fs + 1
+newest (ForOpen f n fs) = length fs + 1
+newest (Semi s fs) = length fs + 1
+newest (Done s fs) = length fs + 1
