@@ -15,3 +15,4 @@ pub mod Fills
 pub mod Complete
 pub mod States
 pub mod Exact
+pub mod Turns

@@ -1,3 +1,4 @@
 pub mod Loads
 pub mod Lists
 pub mod View
+pub mod Reading
