@@ -15,3 +15,8 @@ pub mod Fills
 pub mod Complete
 pub mod States
 pub mod Exact
+pub mod Turns
+pub mod Behinds
+pub mod Rows
+pub mod Light
+pub mod Loop

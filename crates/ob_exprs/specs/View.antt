@@ -1,10 +1,9 @@
 -- What the parser holds, as the machine sees it.
-use Rattle.std.specs.Prelude.{◌≡◌, ◌≤◌, List, map, reverse, Option, Some, None}
-use Rattle.ob_tree.specs.Trees.{Mark, Infix}
+use Rattle.std.specs.Prelude.{List, [], ◌∷◌, map, reverse}
+use Rattle.ob_tree.specs.Trees.{Mark, Infix, ExprTree}
 use Rattle.ob_tree.specs.ExpressionView.{expr_tree, spec_tree, type_tree, obj_trees, dim_trees}
 use Rattle.ob_tree.proofs.Frames as plain
-use Rattle.ob_tree.proofs.Frames.{Frame, State}
-use Rattle.ob_tree.proofs.Machine.{finish, finish_spec}
+use Rattle.ob_tree.proofs.Frames.{Frame, close}
 use Rattle.ob_exprs.specs.declared.state.Place.{Place}
 use Rattle.ob_exprs.specs.declared.state.Operator.{Operator}
 use Rattle.ob_exprs.specs.declared.state.Operator.TheVariants as op
@@ -14,13 +13,7 @@ use Rattle.ob_exprs.specs.declared.state.Head.{Head}
 use Rattle.ob_exprs.specs.declared.state.Head.TheVariants as head
 use Rattle.ob_exprs.specs.declared.state.Waiting.{Waiting}
 use Rattle.ob_exprs.specs.declared.state.Waiting.TheVariants as waiting
-use Rattle.ob_exprs.specs.declared.state.Mode.{Mode}
-use Rattle.ob_exprs.specs.declared.state.Mode.TheVariants as mode
-use Rattle.ob_exprs.specs.declared.state.Reader.{Reader}
-use Rattle.ob_exprs.specs.declared.state.Answer.{Answer}
-use Rattle.ob_exprs.specs.declared.state.Answer.TheVariants as answer
 use Rattle.ob_exprs.specs.Lists.{argument_trees, member_trees}
-use Rattle.ob_exprs.specs.Loads.{load}
 
 abbrev pub mark : Place → Mark
 mark p = record { first = p.first; at = p.at; line = p.line }
@@ -59,32 +52,7 @@ frame_of (waiting.Struct b) = plain.InStruct (body_of b)
 abbrev pub frames : List Waiting → List Frame
 frames ws = map frame_of (reverse ws)
 
-abbrev pub mode_state : Mode → List Frame → State
-mode_state mode.Operand fs = plain.Operand fs
-mode_state (mode.Open p) fs = plain.Open (mark p) fs
-mode_state (mode.Size p) fs = plain.Size (mark p) fs
-mode_state (mode.SizeOpen p q) fs = plain.SizeOpen (mark p) (mark q) fs
-mode_state (mode.Called p name) fs = plain.Called (mark p) name fs
-mode_state (mode.Select p arrow b) fs = plain.Select (mark p) arrow (expr_tree b.expr) fs
-mode_state (mode.After e) fs = plain.After (expr_tree e.expr) fs
-mode_state mode.Specifier fs = plain.Specifier fs
-mode_state (mode.StructWord f) fs = plain.StructWord f fs
-mode_state (mode.Members b) fs = plain.Members (body_of b) fs
-mode_state (mode.Declare l n) fs = plain.Declare (line_of l) n fs
-mode_state (mode.Dims h ds) fs = plain.Dims (head_of h) (dim_trees ds.items.items) fs
-mode_state (mode.AfterSpec s) fs = plain.AfterSpec (spec_tree s.spec) fs
-
-abbrev pub state_of : Reader → State
-state_of r = mode_state r.mode (frames r.stack.items)
-
--- what a token leads to that nothing whole stands before
-abbrev pub Leads : Option Reader → Option State → Type 0
-Leads (Some r) next = next ≡ Some (state_of r)
-Leads None next = next ≡ None
-
--- what one token leads to: the next state, or none, and then what was read is unchanged
-abbrev pub Answers : State → Answer → Option State → Type 0
-Answers s (answer.Goes r) next = next ≡ Some (state_of r)
-Answers s (answer.Stays r) next =
-    (next ≡ None) × (finish (state_of r) ≡ finish s) × (finish_spec (state_of r) ≡ finish_spec s) × (load (state_of r) ≤ load s)
-Answers s answer.Stuck next = (next ≡ None) × (finish s ≡ None) × (finish_spec s ≡ None)
+-- the newest node with its last operand
+abbrev pub closed_top : ExprTree → List Frame → ExprTree × List Frame
+closed_top e [] = (e, [])
+closed_top e (f ∷ fs) = (close f e, fs)

@@ -32,7 +32,8 @@ fn push_argument(items: Vec<Expr>, argument: Expr) -> Result<Vec<Expr>, NoMemory
 
 /// The arguments with one more.
 pub fn add_argument(arguments: Arguments, argument: Whole) -> Result<Arguments, NoMemory>
-    ensures { IfOk result (λ a. argument_trees a.items.items ≡ add_argument_of (argument_trees arguments.items.items) (expr_tree argument.expr)) }
+    ensures added { IfOk result (λ a. argument_trees a.items.items ≡ add_argument_of (argument_trees arguments.items.items) (expr_tree argument.expr)) }
+    ensures tall { IfOk result (λ a. height_arguments (argument_trees a.items.items) ≡ max (height_arguments (argument_trees arguments.items.items)) (height_of (expr_tree argument.expr))) }
 {
     let height = arguments.height.max(argument.height);
     let Arguments { items, .. } = arguments;

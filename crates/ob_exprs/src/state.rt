@@ -107,20 +107,3 @@ pub enum Mode {
     /// A whole specifier was read.
     AfterSpec(WholeSpec),
 }
-
-/// What was read.
-#[derive(Drop)]
-pub struct Reader {
-    pub stack: Vec<Waiting>,
-    pub mode: Mode,
-}
-
-/// What one token leads to.
-#[derive(Drop)]
-pub enum Answer {
-    Goes(Reader),
-    /// No tree goes on so. What was read stands for the same whole tree as before, if for any.
-    Stays(Reader),
-    /// No tree goes on so, and what was read is no whole tree.
-    Stuck,
-}

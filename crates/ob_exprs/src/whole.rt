@@ -1,4 +1,4 @@
-ghost use Rattle.std.specs.Prelude.{◌≡◌};
+ghost use Rattle.std.specs.Prelude.{◌≡◌, ◌≤◌};
 ghost use Rattle.ob_tree.specs.Levels.{level_of};
 ghost use Rattle.ob_tree.specs.Paths.{height as height_of, height_arguments, height_type, height_spec, height_members, height_objs, height_dims};
 ghost use Rattle.ob_tree.specs.ExpressionView.{expr_tree, spec_tree, type_tree, obj_trees, dim_trees};
@@ -49,6 +49,7 @@ pub struct Dims {
     pub height: u32,
     ghost count_is: { count ≡ count_of (dim_trees items.items) },
     ghost height_is: { height ≡ height_dims (dim_trees items.items) },
+    ghost few: { count ≤ height },
 }
 
 /// The declarators of a line of members so far, with the number of nodes on their longest path.

@@ -1,0 +1,76 @@
+-- What the steps behind whole operands need of the machine.
+use Rattle.std.proofs.Common.{◌≡◌, ℕ, ◌≤◌, ◌<◌, max, List, [], ◌∷◌, Bool, true, false, Option, Some, None, refl, sym, ◌∙◌, ap, subst, arith}
+use Rattle.std.specs.Prelude.{IsTrue}
+use Rattle.ob_tree.specs.declared.tokens.Sign.{Sign}
+use Rattle.ob_tree.specs.declared.tokens.Sign.TheVariants as sign
+use Rattle.ob_tree.specs.declared.expressions.Expr.{Expr}
+use Rattle.ob_tree.specs.declared.expressions.ExprNode as from
+use Rattle.ob_tree.specs.declared.expressions.ExprNode.{ExprNode}
+use Rattle.ob_tree.specs.Trees.{Mark, ExprTree, ExprTrees}
+use Rattle.ob_tree.specs.Paths.{height, height_arguments}
+use Rattle.ob_tree.specs.Levels.{mark_of}
+use Rattle.ob_tree.specs.ExpressionView.{marked, node_tree, expr_tree}
+use Rattle.ob_tree.proofs.Frames.{Frame, InCall, State, After, reduce, at_sign}
+use Rattle.ob_tree.proofs.Machine.{after_sign, finish, finish_spec, whole_of}
+use Rattle.ob_tree.proofs.SignSteps.{no}
+use Rattle.ob_exprs.specs.declared.reader.Reader.{Reader}
+use Rattle.ob_exprs.specs.declared.reader.Answer.{Answer}
+use Rattle.ob_exprs.specs.declared.reader.Answer.TheVariants as answer
+use Rattle.ob_exprs.specs.Loads.{depth_of, load}
+use Rattle.ob_exprs.specs.Reading.{Leads, Answers, state_of}
+use Rattle.ob_exprs.specs.Behind.{is_postfix, closing_level, behind, answered}
+use Rattle.ob_exprs.proofs.Heights.{depth-load}
+
+pub after_reduced : (least p : ℕ) (s : Sign) (e : ExprTree) (fs : List Frame) → is_postfix s ≡ false
+    → after_sign least p s e fs ≡ behind least p s (reduce (closing_level s) e fs)
+after_reduced least p sign.OpenBracket e fs h = absurd cc
+after_reduced least p sign.OpenParen e fs h = absurd cc
+after_reduced least p sign.Dot e fs h = absurd cc
+after_reduced least p sign.Arrow e fs h = absurd cc
+after_reduced least p sign.PlusPlus e fs h = absurd cc
+after_reduced least p sign.MinusMinus e fs h = absurd cc
+after_reduced least p s e fs h = refl
+
+-- what stands for the same whole tree and is no deeper
+pub after_kept : (e e2 : ExprTree) (fs gs : List Frame) (a : Answer) (next : Option State) → reduce 0 e2 gs ≡ reduce 0 e fs → load (After e2 gs) ≤ load (After e fs)
+    → Answers (After e2 gs) a next → Answers (After e fs) a next
+after_kept e e2 fs gs (answer.Goes r) next h l a = a
+after_kept e e2 fs gs (answer.Stays r) next h l a = (a.0, a.1 ∙ ap whole_of h, a.2, omega (arith, a.3))
+after_kept e e2 fs gs answer.Stuck next h l a = (a.0, ap whole_of (sym h) ∙ a.1, a.2)
+
+pub leads_answers : (s : State) (o : Option Reader) (next : Option State) → finish s ≡ None → finish_spec s ≡ None → Leads o next → Answers s (answered o) next
+leads_answers s None next f g l = (l, f, g)
+leads_answers s (Some r) next f g l = l
+
+mark-node : (n : ExprNode) (f a l : ℕ) → mark_of (node_tree n f a l) ≡ marked f a l
+mark-node (from.Name name) f a l = refl
+mark-node (from.Number value ty) f a l = refl
+mark-node from.Null f a l = refl
+mark-node from.Eof f a l = refl
+mark-node (from.Str strings) f a l = refl
+mark-node (from.Paren' p f1 a1 l1 e) f a l = refl
+mark-node (from.Index' p f1 a1 l1 b q f2 a2 l2 i) f a l = refl
+mark-node (from.Call' name r es) f a l = refl
+mark-node (from.Member' p f1 a1 l1 b name) f a l = refl
+mark-node (from.Arrow' p f1 a1 l1 b name) f a l = refl
+mark-node (from.Step' post down p f1 a1 l1 e) f a l = refl
+mark-node (from.Unary' s p f1 a1 l1 e) f a l = refl
+mark-node (from.SizeExpr' p f1 a1 l1 e) f a l = refl
+mark-node (from.SizeType t) f a l = refl
+mark-node (from.Cast' t p f1 a1 l1 e) f a l = refl
+mark-node (from.Binary' s p f1 a1 l1 x q f2 a2 l2 y) f a l = refl
+mark-node (from.Cond' p f1 a1 l1 c q f2 a2 l2 x r f3 a3 l3 y) f a l = refl
+mark-node (from.Assign' s p f1 a1 l1 x q f2 a2 l2 y) f a l = refl
+mark-node (from.Comma' p f1 a1 l1 x q f2 a2 l2 y) f a l = refl
+
+pub sign_made : (e : Expr) (p : ℕ) → marked e.first p e.line ≡ at_sign (mark_of (expr_tree e)) p
+sign_made e p = ap (λ m. at_sign m p) (sym (mark-node e.node e.first e.at e.line))
+
+-- few nodes stand above what comes next
+pub shallow_2000 : (e : ExprTree) (fs : List Frame) → load (After e fs) ≤ 256 → depth_of fs ≤ 2000
+shallow_2000 e fs l = omega (arith, depth-load fs)
+
+-- a call with one argument more is small
+pub call_small : (n : ℕ) (m : Mark) (name : List ℕ) (es : ExprTrees) (e : ExprTree) (fs gs : List Frame) → n ≡ max (height_arguments es) (height e)
+    → gs ≡ InCall m name es ∷ fs → load (After e gs) ≤ 256 → n < 1000
+call_small n m name es e fs gs h g l = let k : load (After e (InCall m name es ∷ fs)) ≤ 256 = rw g at l in omega arith

@@ -1,0 +1,179 @@
+-- The loop that reads token by token.
+use Rattle.std.proofs.Common.{◌≡◌, ℕ, zero, suc, ◌+◌, ◌-◌, ◌<◌, ◌≤◌, max, List, [], ◌∷◌, length, take, drop, map, get_or, Bool, true, false, Option, Some, None, cond, option_map, refl, sym, ◌∙◌, ap, subst, arith}
+use Rattle.std.specs.Prelude.{nat_le}
+use Rattle.std.specs.List.{All}
+use Rattle.std.proofs.lemmas.Bool.Decides.{nat_tests}
+use Rattle.ob_tree.specs.declared.tokens.Token.{Token}
+use Rattle.ob_tree.specs.declared.expressions.Expr.{Expr}
+use Rattle.ob_tree.specs.declared.expressions.Spec.{Spec}
+use Rattle.ob_tree.specs.Trees.{ExprTree, SpecTree}
+use Rattle.ob_tree.specs.ExpressionView.{expr_tree, spec_tree}
+use Rattle.ob_tree.specs.Places.{here}
+use Rattle.ob_tree.specs.Valid.{IsOfSource}
+use Rattle.ob_tree.specs.Fronts.{lines, kinds}
+use Rattle.ob_tree.specs.Answers.{Verdict, Whole, NoTree, TooDeep}
+use Rattle.ob_tree.proofs.Frames.{State, Operand, Specifier}
+use Rattle.ob_tree.proofs.Machine.{step, finish, finish_spec}
+use Rattle.ob_tree.proofs.Readings as machine
+use Rattle.ob_exprs.specs.declared.state.Mode.{Mode}
+use Rattle.ob_exprs.specs.declared.state.Mode.TheVariants as mode
+use Rattle.ob_exprs.specs.declared.reader.Reader.{Reader}
+use Rattle.ob_exprs.specs.declared.reader.Answer.{Answer}
+use Rattle.ob_exprs.specs.declared.reader.Answer.TheVariants as answer
+use Rattle.ob_exprs.specs.Loads.{depth_of, load_stack, load, newest}
+use Rattle.ob_exprs.specs.Reading.{Answers, held, mode_state, state_of}
+use Rattle.ob_exprs.specs.Reads.{reading, Stands}
+use Rattle.ob_exprs.specs.Parsed.{IsExprVerdict, IsSpecVerdict}
+use Rattle.ob_exprs.proofs.Exact.{exact-expr, exact-spec, machine as run_expr, spec_machine}
+use Rattle.ob_exprs.proofs.Heights.{depth-load}
+use Rattle.ob_exprs.proofs.Light.{Light, step-light}
+
+drop-at : (ts : List Token) (i : ℕ) (d : Token) → i < length ts → drop i ts ≡ get_or ts i d ∷ drop (i + 1) ts
+drop-at [] i d h = absurd (omega arith)
+drop-at (t ∷ ts) zero d h = refl
+drop-at (t ∷ ts) (suc i) d h =
+    let e : suc i + 1 ≡ suc (i + 1) = omega arith in
+    drop-at ts i d (omega arith) ∙ ap (λ k. get_or ts i d ∷ drop k (t ∷ ts)) (sym e)
+
+drop-end : (ts : List Token) (i : ℕ) → length ts ≤ i → drop i ts ≡ []
+drop-end [] zero h = refl
+drop-end [] (suc i) h = refl
+drop-end (t ∷ ts) zero h = absurd (omega arith)
+drop-end (t ∷ ts) (suc i) h = drop-end ts i (omega arith)
+
+pub lines-at : (ts : List Token) (i : ℕ) (d : Token) → i < length ts → lines ts i ≡ (get_or ts i d).span.line
+lines-at [] i d h = absurd (omega arith)
+lines-at (t ∷ ts) zero d h = refl
+lines-at (t ∷ ts) (suc i) d h = lines-at ts i d (omega arith)
+
+le-true : (a b : ℕ) → a ≤ b → nat_le a b ≡ true
+le-true a b h = grind (arith, nat_tests)
+
+le-false : (a b : ℕ) → b < a → nat_le a b ≡ false
+le-false a b h = grind (arith, nat_tests)
+
+-- the frames of a state have no more nodes than the state
+stack-load : (r : Reader) → load_stack (held r.stack) ≤ load (state_of r)
+stack-load r = go r.mode
+  where
+    go : (m : Mode) → load_stack (held r.stack) ≤ load (mode_state m (held r.stack))
+    go mode.Operand = omega arith
+    go (mode.Open p) = omega arith
+    go (mode.Size p) = omega arith
+    go (mode.SizeOpen p q) = omega arith
+    go (mode.Called p name) = omega arith
+    go (mode.Select p arrow b) = omega arith
+    go (mode.After e) = omega arith
+    go mode.Specifier = omega arith
+    go (mode.StructWord f) = omega arith
+    go (mode.Members b) = omega arith
+    go (mode.Declare l n) = omega arith
+    go (mode.Dims h ds) = omega arith
+    go (mode.AfterSpec s) = omega arith
+
+-- nothing was read yet
+start-run : (ts : List Token) (from least : ℕ) → run_expr (lines ts) least from (kinds ts from from) ≡ Some (Operand [])
+start-run ts from least =
+    let e : from - from ≡ 0 = omega arith in
+    ap (λ n. run_expr (lines ts) least from (map (λ t. t.kind) (take n (drop from ts)))) e
+
+start-spec : (ts : List Token) (from : ℕ) → spec_machine (lines ts) from (kinds ts from from) ≡ Some (Specifier [])
+start-spec ts from =
+    let e : from - from ≡ 0 = omega arith in
+    ap (λ n. spec_machine (lines ts) from (map (λ t. t.kind) (take n (drop from ts)))) e
+
+-- one token
+reading-turn : (ts : List Token) (least depth i : ℕ) (d : Token) (s : State) → i < length ts
+    → reading ts least depth i s ≡ machine.turn load depth i s (λ t. reading ts least depth (i + 1) t) (step least (here (lines ts) i) (get_or ts i d).kind s)
+reading-turn ts least depth i d s h = ap (λ l. machine.read (λ q k t. step least (here (lines ts) q) k t) load depth i (map (λ t. t.kind) l) s) (drop-at ts i d h)
+
+-- what the loop keeps
+pub record Kept (ts : List Token) (least depth : ℕ) (left : machine.Reading State) (i : ℕ) (r : Reader) : Type 0 where
+  pub reads : left ≡ reading ts least depth i (state_of r)
+  pub limit : depth + load (state_of r) ≤ 256
+  pub shallow : depth_of (held r.stack) ≤ 1000
+
+module _ (ts : List Token) (least depth : ℕ) (left : machine.Reading State) (i : ℕ) (d : Token) (r : Reader) (b : i < length ts) (k : Kept ts least depth left i r)
+    (a : Answer) (g : Answers (state_of r) a (step least (here (lines ts) i) (get_or ts i d).kind (state_of r))) where
+  -- what the machine's step leads to
+  turned : (o : Option State) → step least (here (lines ts) i) (get_or ts i d).kind (state_of r) ≡ o → left ≡ machine.turn load depth i (state_of r) (λ t. reading ts least depth (i + 1) t) o
+  turned o e = k.reads ∙ reading-turn ts least depth i d (state_of r) b ∙ ap (λ x. machine.turn load depth i (state_of r) (λ t. reading ts least depth (i + 1) t) x) e
+
+  answer-is : (x : Answer) → a ≡ x → Answers (state_of r) x (step least (here (lines ts) i) (get_or ts i d).kind (state_of r))
+  answer-is x e = subst (λ y. Answers (state_of r) y (step least (here (lines ts) i) (get_or ts i d).kind (state_of r))) e g
+
+  next-load : (next : Reader) → a ≡ answer.Goes next → load (state_of next) ≤ max (load (state_of r)) (newest (state_of next))
+  next-load next e = subst (Light (load (state_of r))) (answer-is (answer.Goes next) e) (step-light least (here (lines ts) i) (get_or ts i d).kind (state_of r))
+
+  pub goes-on : (next : Reader) → a ≡ answer.Goes next → newest (state_of next) ≤ 256 - depth → depth ≤ 256 → Kept ts least depth left (i + 1) next
+  goes-on next e n h =
+      let l : depth + load (state_of next) ≤ 256 = omega (arith, next-load next e, k.limit) in
+      record {
+        reads = turned (Some (state_of next)) (answer-is (answer.Goes next) e) ∙ ap (λ c. cond c (reading ts least depth (i + 1) (state_of next)) (machine.Deep i)) (le-true (depth + load (state_of next)) 256 l);
+        limit = l;
+        shallow = shallow-state next l;
+      }
+    where
+      shallow-state : (next : Reader) → depth + load (state_of next) ≤ 256 → depth_of (held next.stack) ≤ 1000
+      shallow-state next l = omega (arith, depth-load (held next.stack), stack-load next)
+
+  pub too-deep : (next : Reader) → a ≡ answer.Goes next → 256 - depth < newest (state_of next) → left ≡ machine.Deep i
+  too-deep next e n =
+      let l : 256 < depth + load (state_of next) = omega arith in
+      turned (Some (state_of next)) (answer-is (answer.Goes next) e) ∙ ap (λ c. cond c (reading ts least depth (i + 1) (state_of next)) (machine.Deep i)) (le-false (depth + load (state_of next)) 256 l)
+
+  pub stays : (rest : Reader) → a ≡ answer.Stays rest → Stands left i rest
+  stays rest e =
+      let h = answer-is (answer.Stays rest) e in
+      record { state = state_of r; reached = turned None h.0; finishes = h.1; finishes_spec = h.2; small = omega (arith, h.3, k.limit) }
+
+  pub stuck : (rest : Reader) → a ≡ answer.Stuck → state_of rest ≡ Operand [] → Stands left i rest
+  stuck rest e n =
+      let h = answer-is answer.Stuck e in
+      record { state = state_of r; reached = turned None h.0; finishes = ap finish n ∙ sym h.1; finishes_spec = ap finish_spec n ∙ sym h.2; small = omega (arith, ap load n) }
+
+pub at-end : (ts : List Token) (least depth : ℕ) (left : machine.Reading State) (r : Reader) → Kept ts least depth left (length ts) r → Stands left (length ts) r
+at-end ts least depth left r k =
+    let e : reading ts least depth (length ts) (state_of r) ≡ machine.Reached (length ts) (state_of r) =
+    ap (λ l. machine.read (λ q k t. step least (here (lines ts) q) k t) load depth (length ts) (map (λ t. t.kind) l) (state_of r)) (drop-end ts (length ts) (omega arith)) in
+    record { state = state_of r; reached = k.reads ∙ e; finishes = refl; finishes_spec = refl; small = omega (arith, k.limit) }
+
+-- the verdict on expressions
+module _ (ts : List Token) (from depth least : ℕ) (small : least ≤ 2) (all : All (λ t. IsOfSource t.kind) ts) (f : from ≤ length ts) (b : depth ≤ 256) where
+  expr-verdict : IsExprVerdict ts from depth least (machine.verdict finish (reading ts least depth from (Operand [])))
+  expr-verdict = machine.right _ _ _ _ _ _ from depth (run_expr (lines ts) least from) (exact-expr (lines ts) least small from depth) ts all (drop from ts) from (Operand []) refl (omega arith) f (start-run ts from least) (omega arith) (λ j h g. absurd (omega arith))
+
+  pub expr-found : (i : ℕ) (r : Reader) (o : Option Expr) (e : Expr) → Stands (reading ts least depth from (Operand [])) i r → option_map expr_tree o ≡ finish (state_of r) → o ≡ Some e
+      → IsExprVerdict ts from depth least (Whole (expr_tree e) i)
+  expr-found i r o e s h g =
+      let q : finish s.state ≡ Some (expr_tree e) = sym s.finishes ∙ sym h ∙ ap (option_map expr_tree) g in
+      subst (IsExprVerdict ts from depth least) (ap (machine.verdict finish) s.reached ∙ ap (machine.found i) q) expr-verdict
+
+  pub expr-none : (i : ℕ) (r : Reader) (o : Option Expr) → Stands (reading ts least depth from (Operand [])) i r → option_map expr_tree o ≡ finish (state_of r) → o ≡ None
+      → IsExprVerdict ts from depth least (NoTree i)
+  expr-none i r o s h g =
+      let q : finish s.state ≡ None = sym s.finishes ∙ sym h ∙ ap (option_map expr_tree) g in
+      subst (IsExprVerdict ts from depth least) (ap (machine.verdict finish) s.reached ∙ ap (machine.found i) q) expr-verdict
+
+  pub expr-deep : (i : ℕ) → reading ts least depth from (Operand []) ≡ machine.Deep i → IsExprVerdict ts from depth least (TooDeep i)
+  expr-deep i e = subst (IsExprVerdict ts from depth least) (ap (machine.verdict finish) e) expr-verdict
+
+-- and on specifiers
+module _ (ts : List Token) (from depth : ℕ) (all : All (λ t. IsOfSource t.kind) ts) (f : from ≤ length ts) (b : depth ≤ 256) where
+  spec-verdict : IsSpecVerdict ts from depth (machine.verdict finish_spec (reading ts 17 depth from (Specifier [])))
+  spec-verdict = machine.right _ _ _ _ _ _ from depth (spec_machine (lines ts) from) (exact-spec (lines ts) from depth) ts all (drop from ts) from (Specifier []) refl (omega arith) f (start-spec ts from) (omega arith) (λ j h g. absurd (omega arith))
+
+  pub spec-found : (i : ℕ) (r : Reader) (o : Option Spec) (e : Spec) → Stands (reading ts 17 depth from (Specifier [])) i r → option_map spec_tree o ≡ finish_spec (state_of r) → o ≡ Some e
+      → IsSpecVerdict ts from depth (Whole (spec_tree e) i)
+  spec-found i r o e s h g =
+      let q : finish_spec s.state ≡ Some (spec_tree e) = sym s.finishes_spec ∙ sym h ∙ ap (option_map spec_tree) g in
+      subst (IsSpecVerdict ts from depth) (ap (machine.verdict finish_spec) s.reached ∙ ap (machine.found i) q) spec-verdict
+
+  pub spec-none : (i : ℕ) (r : Reader) (o : Option Spec) → Stands (reading ts 17 depth from (Specifier [])) i r → option_map spec_tree o ≡ finish_spec (state_of r) → o ≡ None
+      → IsSpecVerdict ts from depth (NoTree i)
+  spec-none i r o s h g =
+      let q : finish_spec s.state ≡ None = sym s.finishes_spec ∙ sym h ∙ ap (option_map spec_tree) g in
+      subst (IsSpecVerdict ts from depth) (ap (machine.verdict finish_spec) s.reached ∙ ap (machine.found i) q) spec-verdict
+
+  pub spec-deep : (i : ℕ) → reading ts 17 depth from (Specifier []) ≡ machine.Deep i → IsSpecVerdict ts from depth (TooDeep i)
+  spec-deep i e = subst (IsSpecVerdict ts from depth) (ap (machine.verdict finish_spec) e) spec-verdict

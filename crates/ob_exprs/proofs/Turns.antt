@@ -1,0 +1,49 @@
+-- What closing the newest node does, a turn at a time.
+use Rattle.std.proofs.Common.{◌≡◌, ℕ, ◌<◌, ◌≤◌, List, [], ◌∷◌, length, refl, sym, ◌∙◌, ap, subst, arith, inl, inr, ◌⊎◌}
+use Rattle.std.proofs.lemmas.Bool.{cases_lt}
+use Rattle.ob_tree.specs.Trees.{ExprTree}
+use Rattle.ob_tree.specs.Paths.{height}
+use Rattle.ob_tree.proofs.Frames.{Frame, After, State, grip, close, reduce}
+use Rattle.ob_tree.proofs.Settled.{lt-yes, lt-no, top_grip}
+use Rattle.ob_exprs.specs.Loads.{depth_of, inner, load_stack, load}
+use Rattle.ob_exprs.specs.View.{closed_top}
+use Rattle.ob_exprs.proofs.Heights.{depth-load}
+use Rattle.ob_exprs.proofs.Kept.{close-load}
+
+-- reducing by less goes on from reducing by more
+reduce-again : (n : ℕ) (e : ExprTree) (fs : List Frame) → reduce 0 (reduce n e fs).0 (reduce n e fs).1 ≡ reduce 0 e fs
+reduce-again n e [] = refl
+reduce-again n e (f ∷ fs) = go (reduce-again n (close f e) fs) (cases_lt n (grip f))
+  where
+    go : reduce 0 (reduce n (close f e) fs).0 (reduce n (close f e) fs).1 ≡ reduce 0 (close f e) fs → (n < grip f) ⊎ (grip f ≤ n)
+        → reduce 0 (reduce n e (f ∷ fs)).0 (reduce n e (f ∷ fs)).1 ≡ reduce 0 e (f ∷ fs)
+    go next (inl h) = rw (lt-yes n (grip f) h, lt-yes 0 (grip f) (omega arith)) next
+    go next (inr h) = rw (lt-no n (grip f) h) refl
+
+-- what one turn of reducing does
+pub record Turn (n : ℕ) (e : ExprTree) (fs : List Frame) (r : ExprTree × List Frame) : Type 0 where
+  pub same : reduce n r.0 r.1 ≡ reduce n e fs
+  pub load : load (After r.0 r.1) ≡ load (After e fs)
+  pub fewer : length r.1 < length fs
+
+turn-at : (n : ℕ) (e : ExprTree) (fs : List Frame) → n < top_grip fs → Turn n e fs (closed_top e fs)
+turn-at n e [] h = absurd (omega arith)
+turn-at n e (f ∷ fs) h = record { same = rw (lt-yes n (grip f) h) refl; load = close-load n f e fs h; fewer = omega arith }
+
+pub turn : (n : ℕ) (e : ExprTree) (fs : List Frame) (e2 : ExprTree) (gs : List Frame) → n < top_grip fs → (e2, gs) ≡ closed_top e fs → Turn n e fs (e2, gs)
+turn n e fs e2 gs h g = subst (Turn n e fs) (sym g) (turn-at n e fs h)
+
+pub turned : (n : ℕ) (e : ExprTree) (fs : List Frame) → top_grip fs ≤ n → reduce n e fs ≡ (e, fs)
+turned n e [] h = refl
+turned n e (f ∷ fs) h = rw (lt-no n (grip f) h) refl
+
+-- the newest node is small, and few nodes stand above what comes next
+pub top_small : (e : ExprTree) (f : Frame) (fs gs : List Frame) → gs ≡ f ∷ fs → load (After e gs) ≤ 256 → (inner f < 1000) × (height e < 1000)
+top_small e f fs gs g l = let h : load (After e (f ∷ fs)) ≤ 256 = rw g at l in (omega arith, omega arith)
+
+pub shallow : (e : ExprTree) (fs : List Frame) → load (After e fs) ≤ 256 → depth_of fs ≤ 1000
+shallow e fs l = omega (arith, depth-load fs)
+
+-- what is reduced further is what is reduced at once
+pub again : (n : ℕ) (e : ExprTree) (fs : List Frame) (e2 : ExprTree) (gs : List Frame) → (e2, gs) ≡ reduce n e fs → reduce 0 e2 gs ≡ reduce 0 e fs
+again n e fs e2 gs g = ap (λ r. reduce 0 r.0 r.1) g ∙ reduce-again n e fs

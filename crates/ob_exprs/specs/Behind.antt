@@ -1,0 +1,44 @@
+-- What a sign behind a whole operand leads to, where it is none of a postfix expression: first the frames that it
+-- closes are closed.
+use Rattle.std.specs.Prelude.{ℕ, List, Bool, false, true, Option, Some, None, cond, nat_lt}
+use Rattle.ob_tree.specs.declared.tokens.Sign.{Sign}
+use Rattle.ob_tree.specs.declared.tokens.Sign.TheVariants as sign
+use Rattle.ob_tree.specs.Trees.{Infix, ExprTree}
+use Rattle.ob_tree.specs.Levels.{binary_level, is_assign}
+use Rattle.ob_tree.proofs.Frames.{Frame, State}
+use Rattle.ob_tree.proofs.Machine.{join_to, then_to, comma_to, close_paren, close_bracket, colon_to}
+use Rattle.ob_exprs.specs.declared.reader.Reader.{Reader}
+use Rattle.ob_exprs.specs.declared.reader.Answer.{Answer}
+use Rattle.ob_exprs.specs.declared.reader.Answer.TheVariants as answer
+
+-- a sign of a postfix expression
+abbrev pub is_postfix : Sign → Bool
+is_postfix sign.OpenBracket = true
+is_postfix sign.OpenParen = true
+is_postfix sign.Dot = true
+is_postfix sign.Arrow = true
+is_postfix sign.PlusPlus = true
+is_postfix sign.MinusMinus = true
+is_postfix s = false
+
+-- the nonterminal above which the sign closes frames
+abbrev pub closing_level : Sign → ℕ
+closing_level sign.Question = 2
+closing_level s = cond (is_assign s) 1 (binary_level s)
+
+abbrev pub operator_behind : (least p : ℕ) → Sign → ExprTree × List Frame → Option State
+operator_behind least p s r = cond (is_assign s) (join_to least (Infix.Assign s) p r)
+    (cond (nat_lt 0 (binary_level s)) (join_to least (Infix.Binary s) p r) None)
+
+abbrev pub behind : (least p : ℕ) → Sign → ExprTree × List Frame → Option State
+behind least p sign.Question r = then_to least p r
+behind least p sign.Comma r = comma_to least p r.0 r.1
+behind least p sign.CloseParen r = close_paren r.0 r.1
+behind least p sign.CloseBracket r = close_bracket r.0 r.1
+behind least p sign.Colon r = colon_to r.0 r.1
+behind least p s r = operator_behind least p s r
+
+-- the answer where nothing whole was read before
+abbrev pub answered : Option Reader → Answer
+answered (Some r) = answer.Goes r
+answered None = answer.Stuck

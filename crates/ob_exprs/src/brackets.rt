@@ -1,0 +1,204 @@
+ghost use Rattle.std.specs.Prelude.{◌≡◌, ◌≤◌, ◌<◌, ◌∷◌, IfOk, Some};
+ghost use Rattle.ob_tree.specs.ExpressionView.{dim_trees};
+ghost use Rattle.ob_tree.proofs.Frames.{Declare, Dims as dims_state, InLength, Operand};
+ghost use Rattle.ob_tree.proofs.Machine.{after_dims as after_dims_of, close_type as close_type_of, declare as declare_of, end_line as end_line_of, more_stars as more_stars_of, next_name as next_name_of};
+ghost use Rattle.ob_exprs.specs.Loads.{depth_of, load};
+ghost use Rattle.ob_exprs.specs.Reading.{Leads, held};
+ghost use Rattle.ob_exprs.specs.View.{head_of, line_of};
+
+use crate::lists::{add_members, add_name, no_dims, type_name};
+use crate::nodes::size_of_type;
+use crate::operands::copy_of;
+use crate::reader::Reader;
+use crate::stack::{push, Stack};
+use crate::state::{Body, Head, Line, Mode, Waiting};
+use crate::whole::Dims;
+use ob_base::NoMemory;
+use ob_tree::{Sign, TokenKind};
+use std::alloc::Global;
+
+/// A star behind a row of brackets.
+#[tactic(auto, using(crate::proofs::Rows::star_more, crate::proofs::Rows::star_none))]
+fn more_stars(stack: Stack, head: Head, dims: Dims) -> Option<Reader>
+    requires { load (dims_state (head_of head) (dim_trees dims.items.items) (held stack)) ≤ 256 }
+    ensures { Leads result (more_stars_of (head_of head) (dim_trees dims.items.items) (held stack)) }
+{
+    match head {
+        Head::Type {
+            place,
+            sized,
+            spec,
+            stars,
+        } => {
+            if 0 < dims.count {
+                return None;
+            }
+            let head = Head::Type {
+                place,
+                sized,
+                spec,
+                stars: stars + 1,
+            };
+            Some(Reader {
+                stack,
+                mode: Mode::Dims(head, dims),
+            })
+        }
+        Head::Member { .. } => None,
+    }
+}
+
+/// The closing parenthesis of a type name.
+fn close_type(stack: Stack, head: Head, dims: Dims) -> Result<Option<Reader>, NoMemory>
+    requires small { load (dims_state (head_of head) (dim_trees dims.items.items) (held stack)) ≤ 256 }
+    requires shallow { depth_of (held stack) ≤ 1000 }
+    ensures { IfOk result (λ o. Leads o (close_type_of (head_of head) (dim_trees dims.items.items) (held stack))) }
+{
+    match head {
+        Head::Type {
+            place,
+            sized,
+            spec,
+            stars,
+        } => {
+            let name = type_name(spec, stars, dims);
+            if sized {
+                return Ok(Some(Reader {
+                    stack,
+                    mode: Mode::After(size_of_type(place, name)),
+                }));
+            }
+            let stack = push(stack, Waiting::Cast(place, name))?;
+            Ok(Some(Reader {
+                stack,
+                mode: Mode::Operand,
+            }))
+        }
+        Head::Member { .. } => Ok(None),
+    }
+}
+
+/// A comma behind a member.
+fn next_name(stack: Stack, head: Head, dims: Dims) -> Result<Option<Reader>, NoMemory>
+    requires { load (dims_state (head_of head) (dim_trees dims.items.items) (held stack)) ≤ 256 }
+    ensures { IfOk result (λ o. Leads o (next_name_of (head_of head) (dim_trees dims.items.items) (held stack))) }
+{
+    match head {
+        Head::Type { .. } => Ok(None),
+        Head::Member {
+            line,
+            stars,
+            name,
+            at,
+        } => {
+            let Line { body, spec, names } = line;
+            let names = add_name(names, stars, name, at, dims)?;
+            let line = Line { body, spec, names };
+            Ok(Some(Reader {
+                stack,
+                mode: Mode::Declare(line, 0),
+            }))
+        }
+    }
+}
+
+/// A semicolon behind a line of members.
+fn end_line(stack: Stack, head: Head, dims: Dims) -> Result<Option<Reader>, NoMemory>
+    requires { load (dims_state (head_of head) (dim_trees dims.items.items) (held stack)) ≤ 256 }
+    ensures { IfOk result (λ o. Leads o (end_line_of (head_of head) (dim_trees dims.items.items) (held stack))) }
+{
+    match head {
+        Head::Type { .. } => Ok(None),
+        Head::Member {
+            line,
+            stars,
+            name,
+            at,
+        } => {
+            let Line { body, spec, names } = line;
+            let names = add_name(names, stars, name, at, dims)?;
+            let Body {
+                first,
+                tag,
+                members,
+            } = body;
+            let members = add_members(members, spec, names)?;
+            let body = Body {
+                first,
+                tag,
+                members,
+            };
+            Ok(Some(Reader {
+                stack,
+                mode: Mode::Members(body),
+            }))
+        }
+    }
+}
+
+/// An opening bracket behind a row of brackets.
+fn open_bracket(stack: Stack, head: Head, dims: Dims) -> Result<Option<Reader>, NoMemory>
+    requires small { load (dims_state (head_of head) (dim_trees dims.items.items) (held stack)) ≤ 256 }
+    requires shallow { depth_of (held stack) ≤ 1000 }
+    ensures { IfOk result (λ o. Leads o (Some (Operand (InLength (head_of head) (dim_trees dims.items.items) ∷ held stack)))) }
+{
+    let stack = push(stack, Waiting::Length(head, dims))?;
+    Ok(Some(Reader {
+        stack,
+        mode: Mode::Operand,
+    }))
+}
+
+/// A token behind a row of brackets.
+pub fn after_dims(
+    stack: Stack,
+    head: Head,
+    dims: Dims,
+    kind: &TokenKind,
+) -> Result<Option<Reader>, NoMemory>
+    requires small { load (dims_state (head_of head) (dim_trees dims.items.items) (held stack)) ≤ 256 }
+    requires shallow { depth_of (held stack) ≤ 1000 }
+    ensures { IfOk result (λ o. Leads o (after_dims_of kind.now (head_of head) (dim_trees dims.items.items) (held stack))) }
+{
+    match kind {
+        TokenKind::Sign(Sign::OpenBracket) => open_bracket(stack, head, dims),
+        TokenKind::Sign(Sign::Star) => Ok(more_stars(stack, head, dims)),
+        TokenKind::Sign(Sign::CloseParen) => close_type(stack, head, dims),
+        TokenKind::Sign(Sign::Comma) => next_name(stack, head, dims),
+        TokenKind::Sign(Sign::Semi) => end_line(stack, head, dims),
+        _ => Ok(None),
+    }
+}
+
+/// A token before a member's name.
+pub fn declare(
+    alloc: Global,
+    stack: Stack,
+    line: Line,
+    stars: u32,
+    kind: &TokenKind,
+    at: u32,
+) -> Result<Option<Reader>, NoMemory>
+    requires { load (Declare (line_of line) stars (held stack)) ≤ 256 }
+    ensures { IfOk result (λ o. Leads o (declare_of at kind.now (line_of line) stars (held stack))) }
+{
+    match kind {
+        TokenKind::Sign(Sign::Star) => Ok(Some(Reader {
+            stack,
+            mode: Mode::Declare(line, stars + 1),
+        })),
+        TokenKind::Name(text) => {
+            let head = Head::Member {
+                line,
+                stars,
+                name: copy_of(alloc, text)?,
+                at,
+            };
+            Ok(Some(Reader {
+                stack,
+                mode: Mode::Dims(head, no_dims(alloc)),
+            }))
+        }
+        _ => Ok(None),
+    }
+}

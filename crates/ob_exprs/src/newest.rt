@@ -1,0 +1,92 @@
+ghost use Rattle.std.specs.Prelude.{◌≡◌, ◌≤◌};
+ghost use Rattle.ob_exprs.specs.Loads.{head_height as head_height_of, head_rise as head_rise_of, inner as inner_of, line_height as line_height_of, newest as newest_of, newest_stack as newest_stack_of, rise as rise_of};
+ghost use Rattle.ob_exprs.specs.Reading.{held, state_of};
+ghost use Rattle.ob_exprs.specs.View.{frame_of, head_of, line_of};
+
+use crate::reader::Reader;
+use crate::stack::Stack;
+use crate::state::{Head, Line, Mode, Waiting};
+
+fn line_height(line: &Line) -> usize
+    ensures { result ≡ line_height_of (line_of line.now) }
+{
+    line.body.members.height.max(line.spec.height.max(line.names.height)) as usize
+}
+
+fn head_height(head: &Head) -> usize
+    ensures { result ≡ head_height_of (head_of head.now) }
+{
+    match head {
+        Head::Type { spec, .. } => 1 + spec.height as usize,
+        Head::Member { line, .. } => 1 + line_height(line),
+    }
+}
+
+fn head_rise(head: &Head) -> usize
+    ensures { result ≡ head_rise_of (head_of head.now) }
+{
+    match head {
+        Head::Type { stars, .. } => 1 + *stars as usize,
+        Head::Member { stars, .. } => 1 + *stars as usize,
+    }
+}
+
+fn rise(waiting: &Waiting) -> usize
+    ensures { result ≡ rise_of (frame_of waiting.now) }
+{
+    match waiting {
+        Waiting::Length(head, dims) => head_rise(head) + (dims.count as usize + 1),
+        _ => 1,
+    }
+}
+
+/// The most nodes on a path of a node that waits.
+fn inner(waiting: &Waiting) -> usize
+    ensures { result ≡ inner_of (frame_of waiting.now) }
+{
+    match waiting {
+        Waiting::Index(_, base) => 1 + base.height as usize,
+        Waiting::Call(_, _, arguments) => 1 + arguments.height as usize,
+        Waiting::Cast(_, name) => 1 + name.height as usize,
+        Waiting::Join(_, _, left) => 1 + left.height as usize,
+        Waiting::Then(_, test) => 1 + test.height as usize,
+        Waiting::Else(_, test, then) => 1 + test.height.max(then.height) as usize,
+        Waiting::Length(head, dims) => head_height(head).max(
+            head_rise(head) + (dims.height as usize).max(dims.count as usize + 1),
+        ),
+        Waiting::Struct(body) => 1 + body.members.height as usize,
+        _ => 1,
+    }
+}
+
+fn newest_waiting(stack: &Stack) -> usize
+    ensures { result ≡ newest_stack_of (held stack.now) }
+{
+    match stack.waiting.last() {
+        None => 0,
+        Some(top) => stack.depth as usize - rise(top) + inner(top),
+    }
+}
+
+/// The nodes on the paths of what was read last.
+pub fn newest(reader: &Reader) -> usize
+    ensures { result ≡ newest_of (state_of reader.now) }
+{
+    let depth = reader.stack.depth as usize;
+    match &reader.mode {
+        Mode::Operand | Mode::Specifier => newest_waiting(&reader.stack),
+        Mode::Open(_)
+        | Mode::Size(_)
+        | Mode::SizeOpen(_, _)
+        | Mode::Called(_, _)
+        | Mode::StructWord(_) => depth + 1,
+        Mode::Select(_, _, base) => depth + (1 + base.height as usize),
+        Mode::After(whole) => depth + whole.height as usize,
+        Mode::Members(body) => depth + (1 + body.members.height as usize),
+        Mode::Declare(line, stars) => depth + (1 + line_height(line).max(*stars as usize)),
+        Mode::Dims(head, dims) => {
+            depth + head_height(head).max(head_rise(head) + dims.height as usize)
+        }
+        Mode::AfterSpec(spec) => depth + spec.height as usize,
+    }
+}

@@ -1,0 +1,169 @@
+ghost use Rattle.std.specs.Prelude.{◌≡◌, ◌≤◌, ◌∷◌, [], IfOk, Some};
+ghost use Rattle.ob_tree.specs.Trees.{SpecTree};
+ghost use Rattle.ob_tree.proofs.Frames.{AfterSpec, Operand};
+ghost use Rattle.ob_tree.proofs.Machine.{is_spec_word, operand as operand_of, operand_sign as operand_sign_of, operand_word as operand_word_of, spec_word as spec_word_of, specifier as specifier_of};
+ghost use Rattle.ob_exprs.specs.Loads.{depth_of, rise as rise_of};
+ghost use Rattle.ob_exprs.specs.Reading.{Leads, held};
+ghost use Rattle.ob_exprs.specs.View.{frame_of, mark};
+
+use crate::nodes::{eof, name, null, number, string};
+use crate::operators::is_unary;
+use crate::reader::Reader;
+use crate::spec_nodes::{integer, size_t, void};
+use crate::stack::{push, Stack};
+use crate::state::{Mode, Place, Waiting};
+use ob_base::{NoMemory, Text};
+use ob_tree::{Keyword, Sign, TokenKind};
+use std::alloc::Global;
+
+pub fn copy_of(alloc: Global, text: &Text) -> Result<Text, NoMemory>
+    ensures { IfOk result (λ t. t ≡ text.now) }
+{
+    let mut copy = Text::new(alloc);
+    copy.add(text.bytes())?;
+    Ok(copy)
+}
+
+/// Pushes a node that waits for an operand.
+pub fn waits(stack: Stack, waiting: Waiting) -> Result<Option<Reader>, NoMemory>
+    requires shallow { depth_of (held stack) ≤ 2000 }
+    requires narrow { rise_of (frame_of waiting) ≤ 1000 }
+    ensures { IfOk result (λ o. Leads o (Some (Operand (frame_of waiting ∷ held stack)))) }
+{
+    let stack = push(stack, waiting)?;
+    Ok(Some(Reader {
+        stack,
+        mode: Mode::Operand,
+    }))
+}
+
+/// A sign that begins an operand.
+pub fn operand_sign(stack: Stack, sign: Sign, place: Place) -> Result<Option<Reader>, NoMemory>
+    requires { depth_of (held stack) ≤ 2000 }
+    ensures { IfOk result (λ o. Leads o (operand_sign_of (mark place) sign (held stack))) }
+{
+    match sign {
+        Sign::OpenParen => Ok(Some(Reader {
+            stack,
+            mode: Mode::Open(place),
+        })),
+        Sign::PlusPlus => waits(stack, Waiting::Step(place, false)),
+        Sign::MinusMinus => waits(stack, Waiting::Step(place, true)),
+        _ => {
+            if is_unary(sign) {
+                waits(stack, Waiting::Unary(place, sign))
+            } else {
+                Ok(None)
+            }
+        }
+    }
+}
+
+/// A word that begins an operand.
+pub fn operand_word(stack: Stack, word: Keyword, place: Place) -> Option<Reader>
+    ensures { Leads result (operand_word_of (mark place) word (held stack)) }
+{
+    let mode = match word {
+        Keyword::Null => Mode::After(null(place)),
+        Keyword::Eof => Mode::After(eof(place)),
+        Keyword::Sizeof => Mode::Size(place),
+        _ => return None,
+    };
+    Some(Reader { stack, mode })
+}
+
+/// A token that begins an operand.
+pub fn operand(
+    alloc: Global,
+    stack: Stack,
+    kind: &TokenKind,
+    place: Place,
+) -> Result<Option<Reader>, NoMemory>
+    requires { depth_of (held stack) ≤ 2000 }
+    ensures { IfOk result (λ o. Leads o (operand_of (mark place) kind.now (held stack))) }
+{
+    let whole = match kind {
+        TokenKind::Word(word) => return Ok(operand_word(stack, *word, place)),
+        TokenKind::Sign(sign) => return operand_sign(stack, *sign, place),
+        TokenKind::Name(text) => name(place, copy_of(alloc, text)?),
+        TokenKind::Number { value, ty } => number(place, *value, *ty),
+        TokenKind::Str(text) => string(alloc, place, copy_of(alloc, text)?)?,
+    };
+    Ok(Some(Reader {
+        stack,
+        mode: Mode::After(whole),
+    }))
+}
+
+/// Whether a specifier can begin with the word.
+pub fn begins_spec(word: Keyword) -> bool
+    ensures { result ≡ is_spec_word word }
+{
+    match word {
+        Keyword::Void
+        | Keyword::SizeT
+        | Keyword::Char
+        | Keyword::Short
+        | Keyword::Int
+        | Keyword::Long
+        | Keyword::Signed
+        | Keyword::Unsigned
+        | Keyword::Struct => true,
+        _ => false,
+    }
+}
+
+fn integer_word(
+    alloc: Global,
+    stack: Stack,
+    word: Keyword,
+    first: u32,
+) -> Result<Option<Reader>, NoMemory>
+    ensures { IfOk result (λ o. Leads o (Some (AfterSpec (SpecTree.Integer first (word ∷ [])) (held stack)))) }
+{
+    let mut words = Vec::new(alloc);
+    words.push(word)?;
+    Ok(Some(Reader {
+        stack,
+        mode: Mode::AfterSpec(integer(first, words)),
+    }))
+}
+
+/// A word that begins a specifier.
+pub fn spec_word(
+    alloc: Global,
+    stack: Stack,
+    word: Keyword,
+    first: u32,
+) -> Result<Option<Reader>, NoMemory>
+    ensures { IfOk result (λ o. Leads o (spec_word_of first word (held stack))) }
+{
+    let mode = match word {
+        Keyword::Void => Mode::AfterSpec(void(first)),
+        Keyword::SizeT => Mode::AfterSpec(size_t(first)),
+        Keyword::Struct => Mode::StructWord(first),
+        Keyword::Char
+        | Keyword::Short
+        | Keyword::Int
+        | Keyword::Long
+        | Keyword::Signed
+        | Keyword::Unsigned => return integer_word(alloc, stack, word, first),
+        _ => return Ok(None),
+    };
+    Ok(Some(Reader { stack, mode }))
+}
+
+/// A token that begins a specifier.
+pub fn specifier(
+    alloc: Global,
+    stack: Stack,
+    kind: &TokenKind,
+    first: u32,
+) -> Result<Option<Reader>, NoMemory>
+    ensures { IfOk result (λ o. Leads o (specifier_of first kind.now (held stack))) }
+{
+    match kind {
+        TokenKind::Word(word) => spec_word(alloc, stack, *word, first),
+        _ => Ok(None),
+    }
+}

@@ -1,0 +1,178 @@
+ghost use Rattle.std.specs.Prelude.{◌≡◌, ◌≤◌, IfOk};
+ghost use Rattle.ob_tree.specs.Levels.{mark_of};
+ghost use Rattle.ob_tree.specs.ExpressionView.{expr_tree};
+ghost use Rattle.ob_tree.proofs.Frames.{After, at_sign};
+ghost use Rattle.ob_tree.proofs.Machine.{call_to, index_to, select_to, step_to, string_to};
+ghost use Rattle.ob_exprs.specs.Loads.{load};
+ghost use Rattle.ob_exprs.specs.Reading.{Answers, held};
+ghost use Rattle.ob_exprs.specs.View.{mark};
+
+use crate::nodes::step_behind;
+use crate::reader::{Answer, Reader};
+use crate::stack::{push, Stack};
+use crate::state::{Mode, Place, Waiting};
+use crate::whole::Whole;
+use ob_base::{NoMemory, Text};
+use ob_tree::{Expr, ExprNode};
+use std::alloc::Global;
+
+/// Where a node stands that begins with the operand and has its sign at `at`.
+#[tactic(auto, using(crate::proofs::Behinds::sign_made))]
+pub fn sign_place(whole: &Whole, at: u32) -> Place
+    ensures { mark result ≡ at_sign (mark_of (expr_tree whole.now.expr)) at }
+{
+    Place {
+        first: whole.expr.first,
+        at,
+        line: whole.expr.line,
+    }
+}
+
+/// An opening bracket behind an operand.
+#[tactic(auto, using(crate::proofs::Behinds::shallow_2000))]
+pub fn index(stack: Stack, whole: Whole, at: u32) -> Result<Answer, NoMemory>
+    requires { load (After (expr_tree whole.expr) (held stack)) ≤ 256 }
+    ensures { IfOk result (λ a. Answers (After (expr_tree whole.expr) (held stack)) a (index_to at (expr_tree whole.expr) (held stack))) }
+{
+    if whole.level < 15 {
+        return Ok(Answer::Stays(Reader {
+            stack,
+            mode: Mode::After(whole),
+        }));
+    }
+    let place = sign_place(&whole, at);
+    let stack = push(stack, Waiting::Index(place, whole))?;
+    Ok(Answer::Goes(Reader {
+        stack,
+        mode: Mode::Operand,
+    }))
+}
+
+/// A `.` or, where `arrow`, a `->` behind an operand.
+pub fn select(stack: Stack, whole: Whole, at: u32, arrow: bool) -> Answer
+    ensures { Answers (After (expr_tree whole.expr) (held stack)) result (select_to at arrow (expr_tree whole.expr) (held stack)) }
+{
+    if whole.level < 15 {
+        return Answer::Stays(Reader {
+            stack,
+            mode: Mode::After(whole),
+        });
+    }
+    let place = sign_place(&whole, at);
+    Answer::Goes(Reader {
+        stack,
+        mode: Mode::Select(place, arrow, whole),
+    })
+}
+
+/// A `++` or, where `down`, a `--` behind an operand.
+pub fn step(
+    alloc: Global,
+    stack: Stack,
+    whole: Whole,
+    at: u32,
+    down: bool,
+) -> Result<Answer, NoMemory>
+    requires { load (After (expr_tree whole.expr) (held stack)) ≤ 256 }
+    ensures { IfOk result (λ a. Answers (After (expr_tree whole.expr) (held stack)) a (step_to at down (expr_tree whole.expr) (held stack))) }
+{
+    if whole.level < 15 {
+        return Ok(Answer::Stays(Reader {
+            stack,
+            mode: Mode::After(whole),
+        }));
+    }
+    let place = sign_place(&whole, at);
+    let whole = step_behind(alloc, place, down, whole)?;
+    Ok(Answer::Goes(Reader {
+        stack,
+        mode: Mode::After(whole),
+    }))
+}
+
+/// An opening parenthesis behind an operand: a name is called.
+pub fn call(stack: Stack, whole: Whole) -> Answer
+    ensures { Answers (After (expr_tree whole.expr) (held stack)) result (call_to (expr_tree whole.expr) (held stack)) }
+{
+    let Whole {
+        expr,
+        height,
+        level,
+        ..
+    } = whole;
+    let Expr {
+        first,
+        at,
+        line,
+        node,
+    } = expr;
+    let mode = match node {
+        ExprNode::Name(name) => Mode::Called(Place { first, at, line }, name),
+        node => {
+            return Answer::Stays(Reader {
+                stack,
+                mode: Mode::After(Whole {
+                    expr: Expr {
+                        first,
+                        at,
+                        line,
+                        node,
+                    },
+                    height,
+                    level,
+                }),
+            });
+        }
+    };
+    Answer::Goes(Reader { stack, mode })
+}
+
+/// A string literal behind an operand.
+pub fn string(stack: Stack, whole: Whole, text: Text) -> Result<Answer, NoMemory>
+    ensures { IfOk result (λ a. Answers (After (expr_tree whole.expr) (held stack)) a (string_to text (expr_tree whole.expr) (held stack))) }
+{
+    let Whole {
+        expr,
+        height,
+        level,
+        ..
+    } = whole;
+    let Expr {
+        first,
+        at,
+        line,
+        node,
+    } = expr;
+    match node {
+        ExprNode::Str(strings) => {
+            let mut strings = strings;
+            strings.push(text)?;
+            Ok(Answer::Goes(Reader {
+                stack,
+                mode: Mode::After(Whole {
+                    expr: Expr {
+                        first,
+                        at,
+                        line,
+                        node: ExprNode::Str(strings),
+                    },
+                    height: 1,
+                    level: 16,
+                }),
+            }))
+        }
+        node => Ok(Answer::Stays(Reader {
+            stack,
+            mode: Mode::After(Whole {
+                expr: Expr {
+                    first,
+                    at,
+                    line,
+                    node,
+                },
+                height,
+                level,
+            }),
+        })),
+    }
+}

@@ -1,0 +1,180 @@
+ghost use Rattle.std.specs.Prelude.{◌≡◌, ◌≤◌, ◌<◌, IfOk};
+ghost use Rattle.ob_tree.specs.Paths.{height as height_of};
+ghost use Rattle.ob_tree.specs.ExpressionView.{expr_tree};
+ghost use Rattle.ob_tree.proofs.Machine.{called as called_of, opened as opened_of, opened_word as opened_word_of, select as select_of, size_opened as size_opened_of, size_opened_word as size_opened_word_of, sized as sized_of};
+ghost use Rattle.ob_exprs.specs.Loads.{depth_of};
+ghost use Rattle.ob_exprs.specs.Reading.{Leads, held};
+ghost use Rattle.ob_exprs.specs.View.{mark};
+
+use crate::lists::no_arguments;
+use crate::nodes::{call, selected};
+use crate::operands::{begins_spec, copy_of, operand, operand_word, spec_word};
+use crate::reader::Reader;
+use crate::stack::{push, top_hole, Stack};
+use crate::state::{Mode, Place, Waiting};
+use crate::whole::Whole;
+use ob_base::{NoMemory, Text};
+use ob_tree::{Keyword, Sign, TokenKind};
+use std::alloc::Global;
+
+/// A word behind an opening parenthesis.
+fn opened_word(
+    alloc: Global,
+    stack: Stack,
+    paren: Place,
+    word: Keyword,
+    place: Place,
+    least: u32,
+) -> Result<Option<Reader>, NoMemory>
+    requires { depth_of (held stack) ≤ 1000 }
+    ensures { IfOk result (λ o. Leads o (opened_word_of least (mark place) word (mark paren) (held stack))) }
+{
+    if !begins_spec(word) {
+        let stack = push(stack, Waiting::Paren(paren))?;
+        return Ok(operand_word(stack, word, place));
+    }
+    if 13 < top_hole(&stack, least) {
+        return Ok(None);
+    }
+    let stack = push(stack, Waiting::Type(paren, false))?;
+    spec_word(alloc, stack, word, place.first)
+}
+
+/// The token behind an opening parenthesis, of a cast or not.
+pub fn opened(
+    alloc: Global,
+    stack: Stack,
+    paren: Place,
+    kind: &TokenKind,
+    place: Place,
+    least: u32,
+) -> Result<Option<Reader>, NoMemory>
+    requires { depth_of (held stack) ≤ 1000 }
+    ensures { IfOk result (λ o. Leads o (opened_of least (mark place) kind.now (mark paren) (held stack))) }
+{
+    match kind {
+        TokenKind::Word(word) => opened_word(alloc, stack, paren, *word, place, least),
+        _ => {
+            let stack = push(stack, Waiting::Paren(paren))?;
+            operand(alloc, stack, kind, place)
+        }
+    }
+}
+
+/// The token behind `sizeof`.
+pub fn sized(
+    alloc: Global,
+    stack: Stack,
+    size: Place,
+    kind: &TokenKind,
+    place: Place,
+) -> Result<Option<Reader>, NoMemory>
+    requires { depth_of (held stack) ≤ 1000 }
+    ensures { IfOk result (λ o. Leads o (sized_of (mark place) kind.now (mark size) (held stack))) }
+{
+    match kind {
+        TokenKind::Sign(Sign::OpenParen) => Ok(Some(Reader {
+            stack,
+            mode: Mode::SizeOpen(size, place),
+        })),
+        _ => {
+            let stack = push(stack, Waiting::Size(size))?;
+            operand(alloc, stack, kind, place)
+        }
+    }
+}
+
+/// A word behind `sizeof` and an opening parenthesis.
+fn size_opened_word(
+    alloc: Global,
+    stack: Stack,
+    size: Place,
+    paren: Place,
+    word: Keyword,
+    place: Place,
+) -> Result<Option<Reader>, NoMemory>
+    requires { depth_of (held stack) ≤ 1000 }
+    ensures { IfOk result (λ o. Leads o (size_opened_word_of (mark place) word (mark size) (mark paren) (held stack))) }
+{
+    if begins_spec(word) {
+        let stack = push(stack, Waiting::Type(size, true))?;
+        return spec_word(alloc, stack, word, place.first);
+    }
+    let stack = push(stack, Waiting::Size(size))?;
+    let stack = push(stack, Waiting::Paren(paren))?;
+    Ok(operand_word(stack, word, place))
+}
+
+/// The token behind `sizeof` and an opening parenthesis, of a type name or not.
+pub fn size_opened(
+    alloc: Global,
+    stack: Stack,
+    size: Place,
+    paren: Place,
+    kind: &TokenKind,
+    place: Place,
+) -> Result<Option<Reader>, NoMemory>
+    requires { depth_of (held stack) ≤ 1000 }
+    ensures { IfOk result (λ o. Leads o (size_opened_of (mark place) kind.now (mark size) (mark paren) (held stack))) }
+{
+    match kind {
+        TokenKind::Word(word) => size_opened_word(alloc, stack, size, paren, *word, place),
+        _ => {
+            let stack = push(stack, Waiting::Size(size))?;
+            let stack = push(stack, Waiting::Paren(paren))?;
+            operand(alloc, stack, kind, place)
+        }
+    }
+}
+
+/// The token behind a called name and its opening parenthesis.
+pub fn called(
+    alloc: Global,
+    stack: Stack,
+    place_of_call: Place,
+    name: Text,
+    kind: &TokenKind,
+    place: Place,
+) -> Result<Option<Reader>, NoMemory>
+    requires { depth_of (held stack) ≤ 1000 }
+    ensures { IfOk result (λ o. Leads o (called_of (mark place) kind.now (mark place_of_call) name (held stack))) }
+{
+    match kind {
+        TokenKind::Sign(Sign::CloseParen) => Ok(Some(Reader {
+            stack,
+            mode: Mode::After(call(place_of_call, name, no_arguments(alloc))),
+        })),
+        _ => {
+            let stack = push(
+                stack,
+                Waiting::Call(place_of_call, name, no_arguments(alloc)),
+            )?;
+            operand(alloc, stack, kind, place)
+        }
+    }
+}
+
+/// The token behind `.` or, where `arrow`, `->`.
+pub fn select(
+    alloc: Global,
+    stack: Stack,
+    place: Place,
+    arrow: bool,
+    base: Whole,
+    kind: &TokenKind,
+) -> Result<Option<Reader>, NoMemory>
+    requires { height_of (expr_tree base.expr) < 1000 }
+    ensures { IfOk result (λ o. Leads o (select_of kind.now (mark place) arrow (expr_tree base.expr) (held stack))) }
+{
+    match kind {
+        TokenKind::Name(text) => {
+            let text = copy_of(alloc, text)?;
+            let whole = selected(alloc, place, arrow, base, text)?;
+            Ok(Some(Reader {
+                stack,
+                mode: Mode::After(whole),
+            }))
+        }
+        _ => Ok(None),
+    }
+}

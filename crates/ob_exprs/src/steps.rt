@@ -1,0 +1,121 @@
+ghost use Rattle.std.specs.Prelude.{◌≡◌, ◌≤◌, ◌<◌, Bool, IfOk};
+ghost use Rattle.ob_tree.specs.ExpressionView.{expr_tree};
+ghost use Rattle.ob_tree.proofs.Frames.{After};
+ghost use Rattle.ob_tree.proofs.Machine.{after as after_of, after_sign as after_sign_of, step as step_of};
+ghost use Rattle.ob_exprs.specs.Behind.{is_postfix as is_postfix_of};
+ghost use Rattle.ob_exprs.specs.Loads.{depth_of, load};
+ghost use Rattle.ob_exprs.specs.Reading.{Answers, held, state_of};
+ghost use Rattle.ob_exprs.specs.View.{mark};
+
+use crate::behind::{behind, closing_level};
+use crate::brackets::{after_dims, declare};
+use crate::operands::{copy_of, operand, specifier};
+use crate::postfix::{call, index, select as select_behind, step as step_behind, string};
+use crate::reader::{Answer, Reader};
+use crate::reduce::reduce;
+use crate::specifiers::{after_spec, answered, members, structured};
+use crate::stack::Stack;
+use crate::starts::{called, opened, select, size_opened, sized};
+use crate::state::{Mode, Place};
+use crate::whole::Whole;
+use ob_base::NoMemory;
+use ob_tree::{Sign, TokenKind};
+use std::alloc::Global;
+
+/// A sign behind an operand that closes what it binds tighter than.
+fn closing(
+    alloc: Global,
+    stack: Stack,
+    whole: Whole,
+    sign: Sign,
+    at: u32,
+    least: u32,
+) -> Result<Answer, NoMemory>
+    requires small { load (After (expr_tree whole.expr) (held stack)) ≤ 256 }
+    requires other { is_postfix_of sign ≡ Bool.false }
+    ensures { IfOk result (λ a. Answers (After (expr_tree whole.expr) (held stack)) a (after_sign_of least at sign (expr_tree whole.expr) (held stack))) }
+{
+    let (stack, whole) = reduce(alloc, stack, whole, closing_level(sign))?;
+    behind(alloc, stack, whole, sign, at, least)
+}
+
+/// A sign behind an operand.
+fn after_sign(
+    alloc: Global,
+    stack: Stack,
+    whole: Whole,
+    sign: Sign,
+    at: u32,
+    least: u32,
+) -> Result<Answer, NoMemory>
+    requires { load (After (expr_tree whole.expr) (held stack)) ≤ 256 }
+    ensures { IfOk result (λ a. Answers (After (expr_tree whole.expr) (held stack)) a (after_sign_of least at sign (expr_tree whole.expr) (held stack))) }
+{
+    match sign {
+        Sign::OpenBracket => index(stack, whole, at),
+        Sign::OpenParen => Ok(call(stack, whole)),
+        Sign::Dot => Ok(select_behind(stack, whole, at, false)),
+        Sign::Arrow => Ok(select_behind(stack, whole, at, true)),
+        Sign::PlusPlus => step_behind(alloc, stack, whole, at, false),
+        Sign::MinusMinus => step_behind(alloc, stack, whole, at, true),
+        _ => closing(alloc, stack, whole, sign, at, least),
+    }
+}
+
+/// A token behind an operand.
+fn after(
+    alloc: Global,
+    stack: Stack,
+    whole: Whole,
+    kind: &TokenKind,
+    at: u32,
+    least: u32,
+) -> Result<Answer, NoMemory>
+    requires { load (After (expr_tree whole.expr) (held stack)) ≤ 256 }
+    ensures { IfOk result (λ a. Answers (After (expr_tree whole.expr) (held stack)) a (after_of least at kind.now (expr_tree whole.expr) (held stack))) }
+{
+    match kind {
+        TokenKind::Sign(sign) => after_sign(alloc, stack, whole, *sign, at, least),
+        TokenKind::Str(text) => {
+            let text = copy_of(alloc, text)?;
+            string(stack, whole, text)
+        }
+        _ => Ok(Answer::Stays(Reader {
+            stack,
+            mode: Mode::After(whole),
+        })),
+    }
+}
+
+/// The next token, which stands at `place`, where expressions of the level `least` are read, or a
+/// specifier.
+#[tactic(auto, using(crate::proofs::Behinds::leads_answers))]
+pub fn step(
+    alloc: Global,
+    reader: Reader,
+    kind: &TokenKind,
+    place: Place,
+    least: u32,
+) -> Result<Answer, NoMemory>
+    requires small { load (state_of reader) ≤ 256 }
+    requires shallow { depth_of (held reader.stack) ≤ 1000 }
+    ensures { IfOk result (λ a. Answers (state_of reader) a (step_of least (mark place) kind.now (state_of reader))) }
+{
+    let Reader { stack, mode } = reader;
+    let next = match mode {
+        Mode::After(whole) => return after(alloc, stack, whole, kind, place.first, least),
+        Mode::AfterSpec(spec) => return after_spec(alloc, stack, spec, kind, place.first),
+        Mode::Operand => operand(alloc, stack, kind, place)?,
+        Mode::Open(paren) => opened(alloc, stack, paren, kind, place, least)?,
+        Mode::Size(size) => sized(alloc, stack, size, kind, place)?,
+        Mode::SizeOpen(size, paren) => size_opened(alloc, stack, size, paren, kind, place)?,
+        Mode::Called(call, name) => called(alloc, stack, call, name, kind, place)?,
+        Mode::Select(sign, arrow, base) => select(alloc, stack, sign, arrow, base, kind)?,
+        Mode::Specifier => specifier(alloc, stack, kind, place.first)?,
+        Mode::StructWord(first) => structured(alloc, stack, first, kind)?,
+        Mode::Members(body) => members(alloc, stack, body, kind, place)?,
+        Mode::Declare(line, stars) => declare(alloc, stack, line, stars, kind, place.first)?,
+        Mode::Dims(head, dims) => after_dims(stack, head, dims, kind)?,
+    };
+    Ok(answered(next))
+}
