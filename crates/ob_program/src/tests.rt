@@ -2,6 +2,9 @@
 //! for each way in which one fails.
 ghost use Rattle.std.specs.Prelude.{◌<◌};
 
+mod exec;
+mod images;
+
 use crate::top;
 use ob_base::{MemFolder, MemSink, MemSource, NoMemory};
 use std::alloc::{AllocError, Global};
@@ -9,7 +12,7 @@ use std::test::Fail;
 
 const HELLO: &[u8] = b"int main(void){putchar(72);putchar(105);return 3;}";
 
-const ROOM: usize = 1_048_576;
+pub(crate) const ROOM: usize = 1_048_576;
 
 /// What the program did: its status, and what the sinks took.
 #[derive(Drop)]
@@ -38,11 +41,11 @@ fn sound<'a>() -> Devices<'a> {
     }
 }
 
-fn text(alloc: Global, bytes: &[u8]) -> Result<String, AllocError> {
+pub(crate) fn text(alloc: Global, bytes: &[u8]) -> Result<String, AllocError> {
     String::from_str(alloc, str::from_utf8(bytes).unwrap_or("not text"))
 }
 
-fn words(alloc: Global, line: &str) -> Result<Vec<String>, AllocError> {
+pub(crate) fn words(alloc: Global, line: &str) -> Result<Vec<String>, AllocError> {
     let mut all = Vec::new(alloc);
     for word in line.split_whitespace() {
         all.push(String::from_str(alloc, word)?)?;

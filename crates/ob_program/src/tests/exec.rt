@@ -1,0 +1,146 @@
+//! `exec`: what images do, which bytes and words are refused, and what devices that fail come to.
+ghost use Rattle.std.specs.Prelude.{◌<◌};
+
+use crate::tests::images::{CALLS, DIVIDES, ECHO, HELLO, OPEN, PLACE, STILL, TICKS, image};
+use crate::tests::{ROOM, text, words};
+use crate::top;
+use ob_base::{MemFolder, MemSink, MemSource, NoMemory};
+use std::alloc::Global;
+use std::test::Fail;
+
+/// What a run did: its status, its number of instructions, and what the sinks took.
+#[derive(Drop)]
+struct Executed {
+    status: u8,
+    instructions: u64,
+    out: String,
+    err: String,
+}
+
+/// What a run reads, which calls of a device fail, and how many bytes a call takes or gives at most.
+#[derive(Drop)]
+struct Devices<'a> {
+    input: &'a [u8],
+    reads: &'a [u64],
+    outs: &'a [u64],
+    most: usize,
+    ghost some: { 0 < most },
+}
+
+fn sound<'a>() -> Devices<'a> {
+    Devices {
+        input: b"",
+        reads: &[],
+        outs: &[],
+        most: 4096,
+    }
+}
+
+fn exec(alloc: Global, line: &str, bytes: &[u8], devices: &Devices) -> Result<Executed, NoMemory> {
+    let mut folder = MemFolder::new(alloc, &[])?;
+    folder.add("an.image", bytes)?;
+    let mut input = MemSource::new(alloc, devices.input, devices.reads, devices.most)?;
+    let mut out = MemSink::new(alloc, ROOM, devices.outs, devices.most)?;
+    let mut err = MemSink::new(alloc, ROOM, &[], devices.most)?;
+    let status = top(
+        alloc,
+        words(alloc, line)?,
+        &mut folder,
+        &mut input,
+        &mut out,
+        &mut err,
+    );
+    Ok(Executed {
+        status: status.code(),
+        instructions: status.instructions(),
+        out: text(alloc, out.taken())?,
+        err: text(alloc, err.taken())?,
+    })
+}
+
+#[test]
+fn endings(rt: HostRuntime) -> Result<(), Fail> {
+    let alloc = rt.alloc();
+    let hello = exec(alloc, "exec an.image", &image(alloc, &HELLO)?, &sound())?;
+    assert_eq!(rt; (hello.status, hello.instructions), (3, 4));
+    assert_eq!(rt; (hello.out.as_str(), hello.err.as_str()), ("H", ""));
+
+    let place = exec(alloc, "exec an.image", &image(alloc, &PLACE)?, &sound())?;
+    assert_eq!(rt; (place.status, place.out.as_str()), (0, "\x03"));
+
+    let still = exec(alloc, "exec an.image --steps 10", &image(alloc, &STILL)?, &sound())?;
+    assert_eq!(rt; (still.status, still.instructions), (141, 22));
+    assert_eq!(rt; still.err.as_str(), "oblivious: Spent\n");
+
+    let ticks = exec(alloc, "exec an.image --steps 10", &image(alloc, &TICKS)?, &sound())?;
+    assert_eq!(rt; (ticks.status, ticks.instructions), (136, 19));
+    assert_eq!(rt; ticks.err.as_str(), "oblivious: Steps\n");
+    Ok(())
+}
+
+#[test]
+fn endings_without_a_number(rt: HostRuntime) -> Result<(), Fail> {
+    let alloc = rt.alloc();
+    let divides = exec(alloc, "exec an.image", &image(alloc, &DIVIDES)?, &sound())?;
+    assert_eq!(rt; (divides.status, divides.instructions), (137, 4));
+    assert_eq!(rt; (divides.out.as_str(), divides.err.as_str()), ("A", "oblivious: Divide\n"));
+
+    let calls = exec(alloc, "exec an.image", &image(alloc, &CALLS)?, &sound())?;
+    assert_eq!(rt; (calls.status, calls.instructions), (138, 21_845));
+    assert_eq!(rt; calls.err.as_str(), "oblivious: Stack\n");
+    Ok(())
+}
+
+#[test]
+fn bytes_and_words_that_are_refused(rt: HostRuntime) -> Result<(), Fail> {
+    let alloc = rt.alloc();
+    let mut bytes = image(alloc, &HELLO)?;
+    for line in [
+        "exec",
+        "exec -an.image",
+        "exec an.image --steps",
+        "exec an.image --steps ten",
+        "exec an.image --steps 1000000001",
+        "exec an.image --steps 00000000010",
+        "exec an.image --steps 5 --steps 5",
+    ] {
+        let usage = exec(alloc, line, &bytes, &sound())?;
+        assert_eq!(rt; (usage.status, usage.instructions), (128, 0), "at {line}");
+    }
+    let gone = exec(alloc, "exec gone.image", &bytes, &sound())?;
+    assert_eq!(rt; (gone.status, gone.err.as_str()), (129, "oblivious: FileFault\n"));
+
+    bytes.pop();
+    let cut = exec(alloc, "exec an.image", &bytes, &sound())?;
+    assert_eq!(rt; (cut.status, cut.err.as_str()), (135, "oblivious: BadImage Bytes 167\n"));
+
+    let version = exec(alloc, "exec an.image", b"OBLV\x02\0\0\0", &sound())?;
+    assert_eq!(rt; version.err.as_str(), "oblivious: BadImage Bytes 4\n");
+
+    let open = exec(alloc, "exec an.image", &image(alloc, &OPEN)?, &sound())?;
+    assert_eq!(rt; (open.status, open.err.as_str()), (135, "oblivious: BadImage Code 0\n"));
+    Ok(())
+}
+
+#[test]
+fn slow_and_failing_devices(rt: HostRuntime) -> Result<(), Fail> {
+    let alloc = rt.alloc();
+    let bytes = image(alloc, &ECHO)?;
+    let mut devices = sound();
+    devices.input = b"echoed";
+    devices.most = 1;
+    let slow = exec(alloc, "exec an.image", &bytes, &devices)?;
+    assert_eq!(rt; (slow.status, slow.out.as_str()), (0, "echoed"));
+
+    devices.reads = &[2];
+    let read = exec(alloc, "exec an.image", &bytes, &devices)?;
+    assert_eq!(rt; (read.status, read.out.as_str()), (142, "ec"));
+    assert_eq!(rt; read.err.as_str(), "oblivious: ReadFault\n");
+
+    devices.reads = &[];
+    devices.outs = &[3];
+    let written = exec(alloc, "exec an.image", &bytes, &devices)?;
+    assert_eq!(rt; (written.status, written.out.as_str()), (143, "ech"));
+    assert_eq!(rt; written.err.as_str(), "");
+    Ok(())
+}
