@@ -1,6 +1,7 @@
 -- What the steps behind whole operands need of the machine.
 use Rattle.std.proofs.Common.{◌≡◌, ℕ, ◌≤◌, ◌<◌, max, List, [], ◌∷◌, Bool, true, false, Option, Some, None, refl, sym, ◌∙◌, ap, subst, arith}
-use Rattle.std.specs.Prelude.{IsTrue}
+use Rattle.std.specs.Prelude.{Result, Ok, Err, IfOk}
+use Rattle.ob_base.specs.declared.text.NoMemory.{NoMemory}
 use Rattle.ob_tree.specs.declared.tokens.Sign.{Sign}
 use Rattle.ob_tree.specs.declared.tokens.Sign.TheVariants as sign
 use Rattle.ob_tree.specs.declared.expressions.Expr.{Expr}
@@ -12,7 +13,6 @@ use Rattle.ob_tree.specs.Levels.{mark_of}
 use Rattle.ob_tree.specs.ExpressionView.{marked, node_tree, expr_tree}
 use Rattle.ob_tree.proofs.Frames.{Frame, InCall, State, After, reduce, at_sign}
 use Rattle.ob_tree.proofs.Machine.{after_sign, finish, finish_spec, whole_of}
-use Rattle.ob_tree.proofs.SignSteps.{no}
 use Rattle.ob_exprs.specs.declared.reader.Reader.{Reader}
 use Rattle.ob_exprs.specs.declared.reader.Answer.{Answer}
 use Rattle.ob_exprs.specs.declared.reader.Answer.TheVariants as answer
@@ -74,3 +74,12 @@ shallow_2000 e fs l = omega (arith, depth-load fs)
 pub call_small : (n : ℕ) (m : Mark) (name : List ℕ) (es : ExprTrees) (e : ExprTree) (fs gs : List Frame) → n ≡ max (height_arguments es) (height e)
     → gs ≡ InCall m name es ∷ fs → load (After e gs) ≤ 256 → n < 1000
 call_small n m name es e fs gs h g l = let k : load (After e (InCall m name es ∷ fs)) ≤ 256 = rw g at l in omega arith
+
+-- the answer behind what was closed is the answer behind what was read
+pub closed_answers : (least p n : ℕ) (s : Sign) (e e2 : ExprTree) (fs gs : List Frame) (r : Result Answer NoMemory) → is_postfix s ≡ false → n ≡ closing_level s → (e2, gs) ≡ reduce n e fs
+    → reduce 0 e2 gs ≡ reduce 0 e fs → load (After e2 gs) ≤ load (After e fs)
+    → IfOk r (λ a. Answers (After e2 gs) a (behind least p s (e2, gs))) → IfOk r (λ a. Answers (After e fs) a (after_sign least p s e fs))
+closed_answers least p n s e e2 fs gs (Err x) o c d again l w = tt
+closed_answers least p n s e e2 fs gs (Ok a) o c d again l w =
+    let q : behind least p s (e2, gs) ≡ after_sign least p s e fs = ap (behind least p s) d ∙ ap (λ m. behind least p s (reduce m e fs)) c ∙ sym (after_reduced least p s e fs o) in
+    after_kept e e2 fs gs a (after_sign least p s e fs) again l (subst (λ x. Answers (After e2 gs) a x) q w)

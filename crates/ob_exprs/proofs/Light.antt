@@ -1,5 +1,5 @@
 -- How deep the machine gets in one step: no deeper than before, or than what was read last.
-use Rattle.std.proofs.Common.{◌≡◌, ℕ, ◌<◌, ◌≤◌, max, List, [], ◌∷◌, Option, Some, None, refl, ◌∙◌, arith, inl, inr, ◌⊎◌, Bool, true, false, cond, ◌&&◌}
+use Rattle.std.proofs.Common.{◌≡◌, ℕ, ◌+◌, ◌<◌, ◌≤◌, max, List, [], ◌∷◌, Option, Some, None, refl, ◌∙◌, arith, inl, inr, ◌⊎◌, Bool, true, false, cond, ◌&&◌}
 use Rattle.std.specs.Prelude.{nat_le, nat_lt}
 use Rattle.std.proofs.lemmas.Bool.{cases_lt}
 use Rattle.ob_tree.specs.declared.tokens.TokenKind.{TokenKind}
@@ -190,17 +190,17 @@ string-light s (ExprTree.Str m ss) fs = omega arith
 string-light s e fs = tt
 
 after-sign-light : (least p : ℕ) (s : Sign) (e : ExprTree) (fs : List Frame) → Light (load (After e fs)) (after_sign least p s e fs)
-after-sign-light least p sign.OpenBracket e fs = cond-light _ (nat_le 15 (level_of e)) (Operand (InIndex (at_sign (mark_of e) p) e ∷ fs)) (omega arith)
+after-sign-light least p sign.OpenBracket e fs = cond-light (load (After e fs)) (nat_le 15 (level_of e)) (Operand (InIndex (at_sign (mark_of e) p) e ∷ fs)) (omega arith)
 after-sign-light least p sign.OpenParen e fs = call-light e fs
-after-sign-light least p sign.Dot e fs = cond-light _ (nat_le 15 (level_of e)) (Select (at_sign (mark_of e) p) false e fs) (omega arith)
-after-sign-light least p sign.Arrow e fs = cond-light _ (nat_le 15 (level_of e)) (Select (at_sign (mark_of e) p) true e fs) (omega arith)
-after-sign-light least p sign.PlusPlus e fs = cond-light _ (nat_le 15 (level_of e)) (After (ExprTree.Step (at_sign (mark_of e) p) true false e) fs) (omega arith)
-after-sign-light least p sign.MinusMinus e fs = cond-light _ (nat_le 15 (level_of e)) (After (ExprTree.Step (at_sign (mark_of e) p) true true e) fs) (omega arith)
-after-sign-light least p sign.Question e fs = then-light _ least p (reduce 2 e fs) (reduce-load 2 e fs)
-after-sign-light least p sign.Comma e fs = comma-light _ least p (reduce 0 e fs).0 (reduce 0 e fs).1 (reduce-load 0 e fs)
-after-sign-light least p sign.CloseParen e fs = paren-light _ (reduce 0 e fs).0 (reduce 0 e fs).1 (reduce-load 0 e fs)
-after-sign-light least p sign.CloseBracket e fs = bracket-light _ (reduce 0 e fs).0 (reduce 0 e fs).1 (reduce-load 0 e fs)
-after-sign-light least p sign.Colon e fs = colon-light _ (reduce 0 e fs).0 (reduce 0 e fs).1 (reduce-load 0 e fs)
+after-sign-light least p sign.Dot e fs = cond-light (load (After e fs)) (nat_le 15 (level_of e)) (Select (at_sign (mark_of e) p) false e fs) (omega arith)
+after-sign-light least p sign.Arrow e fs = cond-light (load (After e fs)) (nat_le 15 (level_of e)) (Select (at_sign (mark_of e) p) true e fs) (omega arith)
+after-sign-light least p sign.PlusPlus e fs = cond-light (load (After e fs)) (nat_le 15 (level_of e)) (After (ExprTree.Step (at_sign (mark_of e) p) true false e) fs) (omega arith)
+after-sign-light least p sign.MinusMinus e fs = cond-light (load (After e fs)) (nat_le 15 (level_of e)) (After (ExprTree.Step (at_sign (mark_of e) p) true true e) fs) (omega arith)
+after-sign-light least p sign.Question e fs = then-light (load (After e fs)) least p (reduce 2 e fs) (reduce-load 2 e fs)
+after-sign-light least p sign.Comma e fs = comma-light (load (After e fs)) least p (reduce 0 e fs).0 (reduce 0 e fs).1 (reduce-load 0 e fs)
+after-sign-light least p sign.CloseParen e fs = paren-light (load (After e fs)) (reduce 0 e fs).0 (reduce 0 e fs).1 (reduce-load 0 e fs)
+after-sign-light least p sign.CloseBracket e fs = bracket-light (load (After e fs)) (reduce 0 e fs).0 (reduce 0 e fs).1 (reduce-load 0 e fs)
+after-sign-light least p sign.Colon e fs = colon-light (load (After e fs)) (reduce 0 e fs).0 (reduce 0 e fs).1 (reduce-load 0 e fs)
 after-sign-light least p s e fs = operator-light least p s e fs
 
 after-light : (least p : ℕ) (k : TokenKind) (e : ExprTree) (fs : List Frame) → Light (load (After e fs)) (after least p k e fs)
@@ -214,28 +214,28 @@ opened-light : (least : ℕ) (m paren : Mark) (k : TokenKind) (fs : List Frame) 
 opened-light least m paren (kind.Word w) fs = go (is_spec_word w) (nat_le (top_hole least fs) 13)
   where
     go : (a b : Bool) → Light (load (Open paren fs)) (cond a (cond b (spec_word m.first w (InType paren false ∷ fs)) None) (operand_word m w (InParen paren ∷ fs)))
-    go true true = spec-word-light _ m.first w (InType paren false ∷ fs) (omega arith)
+    go true true = spec-word-light (load (Open paren fs)) m.first w (InType paren false ∷ fs) (omega arith)
     go true false = tt
-    go false b = operand-word-light _ m w (InParen paren ∷ fs) (omega arith)
-opened-light least m paren (kind.Name name) fs = operand-light _ m (kind.Name name) (InParen paren ∷ fs) (omega arith)
-opened-light least m paren (kind.Number value ty) fs = operand-light _ m (kind.Number value ty) (InParen paren ∷ fs) (omega arith)
-opened-light least m paren (kind.Str s) fs = operand-light _ m (kind.Str s) (InParen paren ∷ fs) (omega arith)
-opened-light least m paren (kind.Sign s) fs = operand-light _ m (kind.Sign s) (InParen paren ∷ fs) (omega arith)
+    go false b = operand-word-light (load (Open paren fs)) m w (InParen paren ∷ fs) (omega arith)
+opened-light least m paren (kind.Name name) fs = operand-light (load (Open paren fs)) m (kind.Name name) (InParen paren ∷ fs) (omega arith)
+opened-light least m paren (kind.Number value ty) fs = operand-light (load (Open paren fs)) m (kind.Number value ty) (InParen paren ∷ fs) (omega arith)
+opened-light least m paren (kind.Str s) fs = operand-light (load (Open paren fs)) m (kind.Str s) (InParen paren ∷ fs) (omega arith)
+opened-light least m paren (kind.Sign s) fs = operand-light (load (Open paren fs)) m (kind.Sign s) (InParen paren ∷ fs) (omega arith)
 
 sized-light : (m size : Mark) (k : TokenKind) (fs : List Frame) → Light (load (Size size fs)) (sized m k size fs)
 sized-light m size (kind.Sign sign.OpenParen) fs = omega arith
-sized-light m size (kind.Sign s) fs = operand-light _ m (kind.Sign s) (InSize size ∷ fs) (omega arith)
-sized-light m size k fs = operand-light _ m k (InSize size ∷ fs) (omega arith)
+sized-light m size (kind.Sign s) fs = operand-light (load (Size size fs)) m (kind.Sign s) (InSize size ∷ fs) (omega arith)
+sized-light m size k fs = operand-light (load (Size size fs)) m k (InSize size ∷ fs) (omega arith)
 
 called-light : (m call : Mark) (name : List ℕ) (k : TokenKind) (fs : List Frame) → Light (load (Called call name fs)) (called m k call name fs)
 called-light m call name (kind.Sign sign.CloseParen) fs = omega arith
-called-light m call name (kind.Sign s) fs = operand-light _ m (kind.Sign s) (InCall call name ExprTrees.NoArguments ∷ fs) (omega arith)
-called-light m call name k fs = operand-light _ m k (InCall call name ExprTrees.NoArguments ∷ fs) (omega arith)
+called-light m call name (kind.Sign s) fs = operand-light (load (Called call name fs)) m (kind.Sign s) (InCall call name ExprTrees.NoArguments ∷ fs) (omega arith)
+called-light m call name k fs = operand-light (load (Called call name fs)) m k (InCall call name ExprTrees.NoArguments ∷ fs) (omega arith)
 
 members-light : (p : ℕ) (k : TokenKind) (b : Body) (fs : List Frame) → Light (load (Members b fs)) (members_to p k b fs)
-members-light p (kind.Sign sign.CloseBrace) b fs = close-struct-light _ b.first b.tag b.members fs (omega arith)
+members-light p (kind.Sign sign.CloseBrace) b fs = close-struct-light (load (Members b fs)) b.first b.tag b.members fs (omega arith)
 members-light p (kind.Sign s) b fs = tt
-members-light p (kind.Word w) b fs = spec-word-light _ p w (InStruct b ∷ fs) (omega arith)
+members-light p (kind.Word w) b fs = spec-word-light (load (Members b fs)) p w (InStruct b ∷ fs) (omega arith)
 members-light p (kind.Name name) b fs = tt
 members-light p (kind.Number value ty) b fs = tt
 members-light p (kind.Str s) b fs = tt
@@ -264,24 +264,24 @@ size-opened-light : (m size paren : Mark) (k : TokenKind) (fs : List Frame) → 
 size-opened-light m size paren (kind.Word w) fs = go (is_spec_word w)
   where
     go : (a : Bool) → Light (load (SizeOpen size paren fs)) (cond a (spec_word m.first w (InType size true ∷ fs)) (operand_word m w (InParen paren ∷ (InSize size ∷ fs))))
-    go true = spec-word-light _ m.first w (InType size true ∷ fs) (omega arith)
-    go false = deep-word m w (InParen paren ∷ (InSize size ∷ fs)) _ (omega arith)
-size-opened-light m size paren (kind.Name name) fs = deep-operand m (kind.Name name) (InParen paren ∷ (InSize size ∷ fs)) _ (omega arith)
-size-opened-light m size paren (kind.Number value ty) fs = deep-operand m (kind.Number value ty) (InParen paren ∷ (InSize size ∷ fs)) _ (omega arith)
-size-opened-light m size paren (kind.Str s) fs = deep-operand m (kind.Str s) (InParen paren ∷ (InSize size ∷ fs)) _ (omega arith)
-size-opened-light m size paren (kind.Sign s) fs = deep-operand m (kind.Sign s) (InParen paren ∷ (InSize size ∷ fs)) _ (omega arith)
+    go true = spec-word-light (load (SizeOpen size paren fs)) m.first w (InType size true ∷ fs) (omega arith)
+    go false = deep-word m w (InParen paren ∷ (InSize size ∷ fs)) (load (SizeOpen size paren fs)) (omega arith)
+size-opened-light m size paren (kind.Name name) fs = deep-operand m (kind.Name name) (InParen paren ∷ (InSize size ∷ fs)) (load (SizeOpen size paren fs)) (omega arith)
+size-opened-light m size paren (kind.Number value ty) fs = deep-operand m (kind.Number value ty) (InParen paren ∷ (InSize size ∷ fs)) (load (SizeOpen size paren fs)) (omega arith)
+size-opened-light m size paren (kind.Str s) fs = deep-operand m (kind.Str s) (InParen paren ∷ (InSize size ∷ fs)) (load (SizeOpen size paren fs)) (omega arith)
+size-opened-light m size paren (kind.Sign s) fs = deep-operand m (kind.Sign s) (InParen paren ∷ (InSize size ∷ fs)) (load (SizeOpen size paren fs)) (omega arith)
 
 pub step-light : (least : ℕ) (m : Mark) (k : TokenKind) (s : State) → Light (load s) (step least m k s)
-step-light least m k (Operand fs) = operand-light _ m k fs (omega arith)
+step-light least m k (Operand fs) = operand-light (load (Operand fs)) m k fs (omega arith)
 step-light least m k (Open paren fs) = opened-light least m paren k fs
 step-light least m k (Size size fs) = sized-light m size k fs
 step-light least m k (SizeOpen size paren fs) = size-opened-light m size paren k fs
 step-light least m k (Called call name fs) = called-light m call name k fs
-step-light least m k (Select n arrow b fs) = select-light _ k n arrow b fs (omega arith)
+step-light least m k (Select n arrow b fs) = select-light (load (Select n arrow b fs)) k n arrow b fs (omega arith)
 step-light least m k (After e fs) = after-light least m.first k e fs
-step-light least m k (Specifier fs) = specifier-light _ m.first k fs (omega arith)
-step-light least m k (StructWord f fs) = struct-light _ k f fs (omega arith)
+step-light least m k (Specifier fs) = specifier-light (load (Specifier fs)) m.first k fs (omega arith)
+step-light least m k (StructWord f fs) = struct-light (load (StructWord f fs)) k f fs (omega arith)
 step-light least m k (Members b fs) = members-light m.first k b fs
-step-light least m k (Declare line n fs) = declare-light _ m.first k line n fs (omega arith)
-step-light least m k (Dims h ds fs) = dims-light _ k h ds fs (omega arith)
-step-light least m k (AfterSpec s fs) = after-spec-light _ m.first k s fs (omega arith)
+step-light least m k (Declare line n fs) = declare-light (load (Declare line n fs)) m.first k line n fs (omega arith)
+step-light least m k (Dims h ds fs) = dims-light (load (Dims h ds fs)) k h ds fs (omega arith)
+step-light least m k (AfterSpec s fs) = after-spec-light (load (AfterSpec s fs)) m.first k s fs (omega arith)

@@ -1,6 +1,10 @@
 -- The loop that reads token by token.
 use Rattle.std.proofs.Common.{◌≡◌, ℕ, zero, suc, ◌+◌, ◌-◌, ◌<◌, ◌≤◌, max, List, [], ◌∷◌, length, take, drop, map, get_or, Bool, true, false, Option, Some, None, cond, option_map, refl, sym, ◌∙◌, ap, subst, arith}
-use Rattle.std.specs.Prelude.{nat_le}
+use Rattle.std.specs.Prelude.{nat_le, Err}
+use Rattle.ob_tree.specs.declared.faults.SyntaxFault.{SyntaxFault}
+use Rattle.ob_tree.specs.declared.faults.SyntaxFault.TheVariants as fault
+use Rattle.ob_exprs.specs.declared.level.Level.{Level}
+use Rattle.ob_exprs.specs.declared.level.Level.TheVariants as level
 use Rattle.std.specs.List.{All}
 use Rattle.std.proofs.lemmas.Bool.Decides.{nat_tests}
 use Rattle.ob_tree.specs.declared.tokens.Token.{Token}
@@ -12,7 +16,7 @@ use Rattle.ob_tree.specs.Places.{here}
 use Rattle.ob_tree.specs.Valid.{IsOfSource}
 use Rattle.ob_tree.specs.Fronts.{lines, kinds}
 use Rattle.ob_tree.specs.Answers.{Verdict, Whole, NoTree, TooDeep}
-use Rattle.ob_tree.proofs.Frames.{State, Operand, Specifier}
+use Rattle.ob_tree.proofs.Frames.{Frame, State, Operand, Specifier}
 use Rattle.ob_tree.proofs.Machine.{step, finish, finish_spec}
 use Rattle.ob_tree.proofs.Readings as machine
 use Rattle.ob_exprs.specs.declared.state.Mode.{Mode}
@@ -20,10 +24,10 @@ use Rattle.ob_exprs.specs.declared.state.Mode.TheVariants as mode
 use Rattle.ob_exprs.specs.declared.reader.Reader.{Reader}
 use Rattle.ob_exprs.specs.declared.reader.Answer.{Answer}
 use Rattle.ob_exprs.specs.declared.reader.Answer.TheVariants as answer
-use Rattle.ob_exprs.specs.Loads.{depth_of, load_stack, load, newest}
+use Rattle.ob_exprs.specs.Loads.{floor, depth_of, load_stack, load, newest}
 use Rattle.ob_exprs.specs.Reading.{Answers, held, mode_state, state_of}
-use Rattle.ob_exprs.specs.Reads.{reading, Stands}
-use Rattle.ob_exprs.specs.Parsed.{IsExprVerdict, IsSpecVerdict}
+use Rattle.ob_exprs.specs.Reads.{reading, Reads, Stands}
+use Rattle.ob_exprs.specs.Parsed.{IsExprVerdict, IsSpecVerdict, ParsedExpr, ParsedSpec}
 use Rattle.ob_exprs.proofs.Exact.{exact-expr, exact-spec, machine as run_expr, spec_machine}
 use Rattle.ob_exprs.proofs.Heights.{depth-load}
 use Rattle.ob_exprs.proofs.Light.{Light, step-light}
@@ -93,8 +97,13 @@ pub record Kept (ts : List Token) (least depth : ℕ) (left : machine.Reading St
   pub limit : depth + load (state_of r) ≤ 256
   pub shallow : depth_of (held r.stack) ≤ 1000
 
-module _ (ts : List Token) (least depth : ℕ) (left : machine.Reading State) (i : ℕ) (d : Token) (r : Reader) (b : i < length ts) (k : Kept ts least depth left i r)
-    (a : Answer) (g : Answers (state_of r) a (step least (here (lines ts) i) (get_or ts i d).kind (state_of r))) where
+module _ (ts : List Token) (least depth : ℕ) (left : machine.Reading State) (i : ℕ) (d t : Token) (r : Reader) (b : i < length ts) (q : t ≡ get_or ts i d) (k : Kept ts least depth left i r)
+    (a : Answer) (given : Answers (state_of r) a (step least (record { first = i; at = i; line = t.span.line }) t.kind (state_of r))) where
+  g : Answers (state_of r) a (step least (here (lines ts) i) (get_or ts i d).kind (state_of r))
+  g =
+      subst (λ n. Answers (state_of r) a (step least (record { first = i; at = i; line = n }) (get_or ts i d).kind (state_of r))) (sym (lines-at ts i d b))
+      (subst (λ u. Answers (state_of r) a (step least (record { first = i; at = i; line = u.span.line }) u.kind (state_of r))) q given)
+
   -- what the machine's step leads to
   turned : (o : Option State) → step least (here (lines ts) i) (get_or ts i d).kind (state_of r) ≡ o → left ≡ machine.turn load depth i (state_of r) (λ t. reading ts least depth (i + 1) t) o
   turned o e = k.reads ∙ reading-turn ts least depth i d (state_of r) b ∙ ap (λ x. machine.turn load depth i (state_of r) (λ t. reading ts least depth (i + 1) t) x) e
@@ -132,11 +141,14 @@ module _ (ts : List Token) (least depth : ℕ) (left : machine.Reading State) (i
       let h = answer-is answer.Stuck e in
       record { state = state_of r; reached = turned None h.0; finishes = ap finish n ∙ sym h.1; finishes_spec = ap finish_spec n ∙ sym h.2; small = omega (arith, ap load n) }
 
-pub at-end : (ts : List Token) (least depth : ℕ) (left : machine.Reading State) (r : Reader) → Kept ts least depth left (length ts) r → Stands left (length ts) r
-at-end ts least depth left r k =
+at-length : (ts : List Token) (least depth : ℕ) (left : machine.Reading State) (r : Reader) → Kept ts least depth left (length ts) r → Stands left (length ts) r
+at-length ts least depth left r k =
     let e : reading ts least depth (length ts) (state_of r) ≡ machine.Reached (length ts) (state_of r) =
     ap (λ l. machine.read (λ q k t. step least (here (lines ts) q) k t) load depth (length ts) (map (λ t. t.kind) l) (state_of r)) (drop-end ts (length ts) (omega arith)) in
     record { state = state_of r; reached = k.reads ∙ e; finishes = refl; finishes_spec = refl; small = omega (arith, k.limit) }
+
+pub at-end : (ts : List Token) (least depth : ℕ) (left : machine.Reading State) (i : ℕ) (r : Reader) → i ≡ length ts → Kept ts least depth left i r → Stands left (length ts) r
+at-end ts least depth left i r e k = at-length ts least depth left r (subst (λ j. Kept ts least depth left j r) e k)
 
 -- the verdict on expressions
 module _ (ts : List Token) (from depth least : ℕ) (small : least ≤ 2) (all : All (λ t. IsOfSource t.kind) ts) (f : from ≤ length ts) (b : depth ≤ 256) where
@@ -177,3 +189,44 @@ module _ (ts : List Token) (from depth : ℕ) (all : All (λ t. IsOfSource t.kin
 
   pub spec-deep : (i : ℕ) → reading ts 17 depth from (Specifier []) ≡ machine.Deep i → IsSpecVerdict ts from depth (TooDeep i)
   spec-deep i e = subst (IsSpecVerdict ts from depth) (ap (machine.verdict finish_spec) e) spec-verdict
+
+floor-low : (l : Level) → floor l ≤ 2
+floor-low level.Comma = omega arith
+floor-low level.Assign = omega arith
+floor-low level.Cond = omega arith
+
+-- what the parser of expressions answers
+module _ (ts : List Token) (from depth : ℕ) (l : Level) (n : ℕ) (fs : List Frame) (e1 : n ≡ floor l) (e2 : fs ≡ []) (all : All (λ t. IsOfSource t.kind) ts) (f : from ≤ length ts) (b : depth ≤ 256) where
+  same : reading ts n depth from (Operand fs) ≡ reading ts (floor l) depth from (Operand [])
+  same = ap (λ m. reading ts m depth from (Operand fs)) e1 ∙ ap (λ gs. reading ts (floor l) depth from (Operand gs)) e2
+
+  pub parsed-some : (i : ℕ) (r : Reader) (o : Option Expr) (e : Expr) → Stands (reading ts n depth from (Operand fs)) i r → option_map expr_tree o ≡ finish (state_of r) → o ≡ Some e
+      → IsExprVerdict ts from depth (floor l) (Whole (expr_tree e) i)
+  parsed-some i r o e s h g = expr-found ts from depth (floor l) (floor-low l) all f b i r o e (subst (λ x. Stands x i r) same s) h g
+
+  pub parsed-none : (i : ℕ) (r : Reader) (o : Option Expr) → Stands (reading ts n depth from (Operand fs)) i r → option_map expr_tree o ≡ finish (state_of r) → o ≡ None
+      → IsExprVerdict ts from depth (floor l) (NoTree i)
+  parsed-none i r o s h g = expr-none ts from depth (floor l) (floor-low l) all f b i r o (subst (λ x. Stands x i r) same s) h g
+
+  pub parsed-fault : (x : SyntaxFault) → Reads (reading ts n depth from (Operand fs)) (Err x) → ParsedExpr ts from depth (floor l) (Err x)
+  parsed-fault (fault.NoTree i) h = absurd h
+  parsed-fault (fault.TooDeep i) h = expr-deep ts from depth (floor l) (floor-low l) all f b i (sym same ∙ h)
+  parsed-fault fault.NoMemory h = tt
+
+-- what the parser of specifiers answers
+module _ (ts : List Token) (from depth : ℕ) (fs : List Frame) (e : fs ≡ []) (all : All (λ t. IsOfSource t.kind) ts) (f : from ≤ length ts) (b : depth ≤ 256) where
+  same-spec : reading ts 17 depth from (Specifier fs) ≡ reading ts 17 depth from (Specifier [])
+  same-spec = ap (λ gs. reading ts 17 depth from (Specifier gs)) e
+
+  pub spec-some : (i : ℕ) (r : Reader) (o : Option Spec) (s : Spec) → Stands (reading ts 17 depth from (Specifier fs)) i r → option_map spec_tree o ≡ finish_spec (state_of r) → o ≡ Some s
+      → IsSpecVerdict ts from depth (Whole (spec_tree s) i)
+  spec-some i r o s k h g = spec-found ts from depth all f b i r o s (subst (λ x. Stands x i r) same-spec k) h g
+
+  pub spec-no : (i : ℕ) (r : Reader) (o : Option Spec) → Stands (reading ts 17 depth from (Specifier fs)) i r → option_map spec_tree o ≡ finish_spec (state_of r) → o ≡ None
+      → IsSpecVerdict ts from depth (NoTree i)
+  spec-no i r o k h g = spec-none ts from depth all f b i r o (subst (λ x. Stands x i r) same-spec k) h g
+
+  pub spec-fault : (x : SyntaxFault) → Reads (reading ts 17 depth from (Specifier fs)) (Err x) → ParsedSpec ts from depth (Err x)
+  spec-fault (fault.NoTree i) h = absurd h
+  spec-fault (fault.TooDeep i) h = spec-deep ts from depth all f b i (sym same-spec ∙ h)
+  spec-fault fault.NoMemory h = tt

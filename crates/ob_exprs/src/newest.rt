@@ -1,4 +1,4 @@
-ghost use Rattle.std.specs.Prelude.{◌≡◌, ◌≤◌};
+ghost use Rattle.std.specs.Prelude.{◌≡◌, ◌≤◌, ◌^◌};
 ghost use Rattle.ob_exprs.specs.Loads.{head_height as head_height_of, head_rise as head_rise_of, inner as inner_of, line_height as line_height_of, newest as newest_of, newest_stack as newest_stack_of, rise as rise_of};
 ghost use Rattle.ob_exprs.specs.Reading.{held, state_of};
 ghost use Rattle.ob_exprs.specs.View.{frame_of, head_of, line_of};
@@ -8,13 +8,15 @@ use crate::stack::Stack;
 use crate::state::{Head, Line, Mode, Waiting};
 
 fn line_height(line: &Line) -> usize
-    ensures { result ≡ line_height_of (line_of line.now) }
+    ensures exact { result ≡ line_height_of (line_of line.now) }
+    ensures small { result ≤ 2 ^ 32 }
 {
     line.body.members.height.max(line.spec.height.max(line.names.height)) as usize
 }
 
 fn head_height(head: &Head) -> usize
-    ensures { result ≡ head_height_of (head_of head.now) }
+    ensures exact { result ≡ head_height_of (head_of head.now) }
+    ensures small { result ≤ 2 ^ 33 }
 {
     match head {
         Head::Type { spec, .. } => 1 + spec.height as usize,
@@ -23,7 +25,8 @@ fn head_height(head: &Head) -> usize
 }
 
 fn head_rise(head: &Head) -> usize
-    ensures { result ≡ head_rise_of (head_of head.now) }
+    ensures exact { result ≡ head_rise_of (head_of head.now) }
+    ensures small { result ≤ 2 ^ 33 }
 {
     match head {
         Head::Type { stars, .. } => 1 + *stars as usize,
@@ -32,7 +35,8 @@ fn head_rise(head: &Head) -> usize
 }
 
 fn rise(waiting: &Waiting) -> usize
-    ensures { result ≡ rise_of (frame_of waiting.now) }
+    ensures exact { result ≡ rise_of (frame_of waiting.now) }
+    ensures small { result ≤ 2 ^ 34 }
 {
     match waiting {
         Waiting::Length(head, dims) => head_rise(head) + (dims.count as usize + 1),
@@ -42,7 +46,8 @@ fn rise(waiting: &Waiting) -> usize
 
 /// The most nodes on a path of a node that waits.
 fn inner(waiting: &Waiting) -> usize
-    ensures { result ≡ inner_of (frame_of waiting.now) }
+    ensures exact { result ≡ inner_of (frame_of waiting.now) }
+    ensures small { result ≤ 2 ^ 35 }
 {
     match waiting {
         Waiting::Index(_, base) => 1 + base.height as usize,
@@ -60,7 +65,8 @@ fn inner(waiting: &Waiting) -> usize
 }
 
 fn newest_waiting(stack: &Stack) -> usize
-    ensures { result ≡ newest_stack_of (held stack.now) }
+    ensures exact { result ≡ newest_stack_of (held stack.now) }
+    ensures small { result ≤ 2 ^ 36 }
 {
     match stack.waiting.last() {
         None => 0,

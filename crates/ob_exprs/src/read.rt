@@ -1,4 +1,5 @@
 ghost use Rattle.std.specs.Prelude.{◌≡◌, ◌≤◌, ◌^◌, [], IfOk, length, option_map};
+ghost use Rattle.ob_tree.specs.declared.faults.SyntaxFault.TheVariants as syntax;
 ghost use Rattle.ob_tree.specs.ExpressionView.{expr_tree, spec_tree};
 ghost use Rattle.ob_tree.proofs.Frames.{Operand};
 ghost use Rattle.ob_tree.proofs.Machine.{finish as finish_of, finish_spec as finish_spec_of};
@@ -61,6 +62,14 @@ pub fn finish_spec(reader: Reader) -> Option<Spec>
     }
 }
 
+/// The fault at a token that only trees of longer paths go on with.
+fn too_deep(reader: Reader, at: u32) -> SyntaxFault
+    ensures { result ≡ syntax.TooDeep at }
+{
+    let _unread = reader;
+    SyntaxFault::TooDeep(at)
+}
+
 /// Reads as far as some tree goes on so, from `start` on.
 pub fn read(
     alloc: Global,
@@ -92,7 +101,7 @@ pub fn read(
             Answer::Stuck => return Ok((nothing(alloc), place)),
         }
         if LIMIT - (depth as usize) < newest(&reader) {
-            return Err(SyntaxFault::TooDeep(at));
+            return Err(too_deep(reader, at));
         }
     }
     Ok((reader, tokens.len()))
