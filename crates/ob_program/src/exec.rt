@@ -39,7 +39,13 @@ fn not_run(answer: ExecAnswer) -> Came
 }
 
 /// Reads, verifies and runs the image that the bytes spell.
-fn run_bytes<S: Source, K: Sink>(alloc: Global, bytes: &[u8], steps: u64, input: &mut S, out: &mut K) -> Came
+fn run_bytes<S: Source, K: Sink>(
+    alloc: Global,
+    bytes: &[u8],
+    steps: u64,
+    input: &mut S,
+    out: &mut K,
+) -> Came
     requires { steps ≤ 1000000000 }
     ensures { BytesGive bytes.now steps result.answer result.instructions
         (record { left_before = S.left input.old; left_now = S.left input.new; faults_before = S.faults input.old; faults_now = S.faults input.new })
@@ -75,7 +81,14 @@ fn run_bytes<S: Source, K: Sink>(alloc: Global, bytes: &[u8], steps: u64, input:
 }
 
 /// Loads an image, and runs it.
-fn run_image<F: Folder, S: Source, K: Sink>(alloc: Global, name: &str, steps: u64, folder: &mut F, input: &mut S, out: &mut K) -> Came
+fn run_image<F: Folder, S: Source, K: Sink>(
+    alloc: Global,
+    name: &str,
+    steps: u64,
+    folder: &mut F,
+    input: &mut S,
+    out: &mut K,
+) -> Came
     requires { steps ≤ 1000000000 }
     ensures { ExecGives (F.files folder.old) (F.faults folder.old) (F.faults folder.new) name.now steps result.answer result.instructions
         (record { left_before = S.left input.old; left_now = S.left input.new; faults_before = S.faults input.old; faults_now = S.faults input.new })

@@ -51,8 +51,7 @@ pub(crate) fn exec_steps(words: &[String]) -> Option<u64>
 {
     match words {
         [command, image, options @ ..]
-            if command.as_str() == "exec" && !image.as_str().starts_with('-') =>
-        {
+            if command.as_str() == "exec" && !image.as_str().starts_with('-') => {
             steps_of(options)
         }
         _ => None,

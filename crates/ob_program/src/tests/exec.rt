@@ -68,11 +68,21 @@ fn endings(rt: HostRuntime) -> Result<(), Fail> {
     let place = exec(alloc, "exec an.image", &image(alloc, &PLACE)?, &sound())?;
     assert_eq!(rt; (place.status, place.out.as_str()), (0, "\x03"));
 
-    let still = exec(alloc, "exec an.image --steps 10", &image(alloc, &STILL)?, &sound())?;
+    let still = exec(
+        alloc,
+        "exec an.image --steps 10",
+        &image(alloc, &STILL)?,
+        &sound(),
+    )?;
     assert_eq!(rt; (still.status, still.instructions), (141, 22));
     assert_eq!(rt; still.err.as_str(), "oblivious: Spent\n");
 
-    let ticks = exec(alloc, "exec an.image --steps 10", &image(alloc, &TICKS)?, &sound())?;
+    let ticks = exec(
+        alloc,
+        "exec an.image --steps 10",
+        &image(alloc, &TICKS)?,
+        &sound(),
+    )?;
     assert_eq!(rt; (ticks.status, ticks.instructions), (136, 19));
     assert_eq!(rt; ticks.err.as_str(), "oblivious: Steps\n");
     Ok(())
@@ -83,7 +93,10 @@ fn endings_without_a_number(rt: HostRuntime) -> Result<(), Fail> {
     let alloc = rt.alloc();
     let divides = exec(alloc, "exec an.image", &image(alloc, &DIVIDES)?, &sound())?;
     assert_eq!(rt; (divides.status, divides.instructions), (137, 4));
-    assert_eq!(rt; (divides.out.as_str(), divides.err.as_str()), ("A", "oblivious: Divide\n"));
+    assert_eq!(rt;
+        (divides.out.as_str(), divides.err.as_str()),
+        ("A", "oblivious: Divide\n")
+    );
 
     let calls = exec(alloc, "exec an.image", &image(alloc, &CALLS)?, &sound())?;
     assert_eq!(rt; (calls.status, calls.instructions), (138, 21_845));
@@ -108,17 +121,26 @@ fn bytes_and_words_that_are_refused(rt: HostRuntime) -> Result<(), Fail> {
         assert_eq!(rt; (usage.status, usage.instructions), (128, 0), "at {line}");
     }
     let gone = exec(alloc, "exec gone.image", &bytes, &sound())?;
-    assert_eq!(rt; (gone.status, gone.err.as_str()), (129, "oblivious: FileFault\n"));
+    assert_eq!(rt;
+        (gone.status, gone.err.as_str()),
+        (129, "oblivious: FileFault\n")
+    );
 
     bytes.pop();
     let cut = exec(alloc, "exec an.image", &bytes, &sound())?;
-    assert_eq!(rt; (cut.status, cut.err.as_str()), (135, "oblivious: BadImage Bytes 167\n"));
+    assert_eq!(rt;
+        (cut.status, cut.err.as_str()),
+        (135, "oblivious: BadImage Bytes 167\n")
+    );
 
     let version = exec(alloc, "exec an.image", b"OBLV\x02\0\0\0", &sound())?;
     assert_eq!(rt; version.err.as_str(), "oblivious: BadImage Bytes 4\n");
 
     let open = exec(alloc, "exec an.image", &image(alloc, &OPEN)?, &sound())?;
-    assert_eq!(rt; (open.status, open.err.as_str()), (135, "oblivious: BadImage Code 0\n"));
+    assert_eq!(rt;
+        (open.status, open.err.as_str()),
+        (135, "oblivious: BadImage Code 0\n")
+    );
     Ok(())
 }
 

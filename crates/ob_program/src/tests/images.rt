@@ -12,7 +12,10 @@ fn put_long(bytes: &mut Vec<u8>, n: u64) -> Result<(), AllocError> {
 
 /// The image of one function of six words. Each row of its code is an operation, a kind, three operands
 /// and a number.
-pub(crate) fn image(alloc: Global, code: &[(u8, u8, u32, u32, u32, u64)]) -> Result<Vec<u8>, AllocError> {
+pub(crate) fn image(
+    alloc: Global,
+    code: &[(u8, u8, u32, u32, u32, u64)],
+) -> Result<Vec<u8>, AllocError> {
     let mut bytes = Vec::new(alloc);
     bytes.extend_from_slice(b"OBLV")?;
     for n in [1, 0, 0, 1, 0, 0, 6, 0] {
@@ -33,13 +36,21 @@ pub(crate) fn image(alloc: Global, code: &[(u8, u8, u32, u32, u32, u64)]) -> Res
 }
 
 const SET: u8 = 2;
+
 const BINARY: u8 = 5;
+
 const COMPARE: u8 = 6;
+
 const JUMP: u8 = 7;
+
 const JUMP_NONZERO: u8 = 9;
+
 const CALL: u8 = 10;
+
 const RETURN: u8 = 11;
+
 const GET: u8 = 23;
+
 const PUT: u8 = 24;
 
 /// Writes `H` and ends with 3.
@@ -61,8 +72,10 @@ pub(crate) const PLACE: [(u8, u8, u32, u32, u32, u64); 3] = [
 pub(crate) const STILL: [(u8, u8, u32, u32, u32, u64); 1] = [(JUMP, 0, 0, 0, 0, 0)];
 
 /// Goes round, one step each time.
-pub(crate) const TICKS: [(u8, u8, u32, u32, u32, u64); 2] =
-    [(1, 0, 0, 0, 0, 0), (JUMP, 0, 0, 0, 0, 0)];
+pub(crate) const TICKS: [(u8, u8, u32, u32, u32, u64); 2] = [
+    (1, 0, 0, 0, 0, 0),
+    (JUMP, 0, 0, 0, 0, 0),
+];
 
 /// Writes `A`, then divides an `int` by 0.
 pub(crate) const DIVIDES: [(u8, u8, u32, u32, u32, u64); 5] = [
@@ -74,8 +87,10 @@ pub(crate) const DIVIDES: [(u8, u8, u32, u32, u32, u64); 5] = [
 ];
 
 /// Calls itself.
-pub(crate) const CALLS: [(u8, u8, u32, u32, u32, u64); 2] =
-    [(CALL, 0, 2, 2, 0, 0), (RETURN, 0, 0, 2, 0, 0)];
+pub(crate) const CALLS: [(u8, u8, u32, u32, u32, u64); 2] = [
+    (CALL, 0, 2, 2, 0, 0),
+    (RETURN, 0, 0, 2, 0, 0),
+];
 
 /// Writes what it reads, to the end of the input.
 pub(crate) const ECHO: [(u8, u8, u32, u32, u32, u64); 8] = [

@@ -22,7 +22,7 @@ returns g c =
       after = c.run-ending.new.self;
       runs =
           subst (λ m. Runs m c.run-ending.new.self c.args.steps c.run-ending.result (reading g c) (writing g c))
-              (c.in-Ok-load.ensures ∙ ap (λ i. loaded i usual) c.in-Ok-verify.ensures.0)
-              c.run-ending.ensures.run;
+          (c.in-Ok-load.ensures ∙ ap (λ i. loaded i usual) c.in-Ok-verify.ensures.0)
+          c.run-ending.ensures.run;
       instructions_are = c.instructions.ensures;
     }
