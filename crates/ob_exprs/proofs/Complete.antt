@@ -23,7 +23,6 @@ abbrev pub Completes : (least m : ℕ) → List TokenKind → Type 0
 Completes least m read =
     ((least ≤ 16) × BeginsExpr least (λ n. n ≤ m) read) ⊎ ((least ≡ 17) × BeginsSpec (λ n. n ≤ m) read)
 
-
 -- what an expression, or a specifier, that stands on these frames completes to
 abbrev pub NextExpr : (least m : ℕ) → List Frame → Type 0
 NextExpr least m fs =

@@ -116,8 +116,6 @@ module _ (least : ℕ) (goal : IsGoal least) where
       subst (λ ks. Good least ks k (size_opened m k size paren fs))
       (append_assoc (stack_spell fs) (kind.Word word.Sizeof ∷ []) (kind.Sign sign.OpenParen ∷ [])) (go k t)
     where
-
-
       go : (k : TokenKind) → IsOfSource k → Good least ((stack_spell fs ++ kind.Word word.Sizeof ∷ []) ++ kind.Sign sign.OpenParen ∷ []) k (size_opened m k size paren fs)
       go (kind.Word w) t = size-opened-word-good m w size paren fs st h
       go (kind.Name name) t = operand-good m (kind.Name name) (InParen paren ∷ (InSize size ∷ fs)) t (tt, omega arith, (tt, h, st)) (omega arith)

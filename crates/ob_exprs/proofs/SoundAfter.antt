@@ -113,9 +113,9 @@ module _ (least : ℕ) (goal : IsGoal least) where
   comma-good p e x fs (InCall m name es ∷ gs) k = (
     (((k.stands.0.0, arguments-valid es x k.stands.0.1 k.of), k.stands.1, k.stands.2), omega arith),
     ap (λ ks. stack_spell gs ++ kind.Name name ∷ (kind.Sign sign.OpenParen ∷ ks)) (arguments-before es x)
-    ∙ ap (λ ks. stack_spell gs ++ ks) (last (kind.Name name ∷ (kind.Sign sign.OpenParen ∷ spell_arguments_before es)) (spell x) (kind.Sign sign.Comma ∷ []))
-    ∙ last (stack_spell gs) ((kind.Name name ∷ (kind.Sign sign.OpenParen ∷ spell_arguments_before es)) ++ spell x) (kind.Sign sign.Comma ∷ [])
-    ∙ ap (λ ks. ks ++ kind.Sign sign.Comma ∷ []) (last (stack_spell gs) (kind.Name name ∷ (kind.Sign sign.OpenParen ∷ spell_arguments_before es)) (spell x) ∙ k.spelled),
+        ∙ ap (λ ks. stack_spell gs ++ ks) (last (kind.Name name ∷ (kind.Sign sign.OpenParen ∷ spell_arguments_before es)) (spell x) (kind.Sign sign.Comma ∷ []))
+        ∙ last (stack_spell gs) ((kind.Name name ∷ (kind.Sign sign.OpenParen ∷ spell_arguments_before es)) ++ spell x) (kind.Sign sign.Comma ∷ [])
+        ∙ ap (λ ks. ks ++ kind.Sign sign.Comma ∷ []) (last (stack_spell gs) (kind.Name name ∷ (kind.Sign sign.OpenParen ∷ spell_arguments_before es)) (spell x) ∙ k.spelled),
   )
   comma-good p e x fs [] k = join-good p e fs (x, []) k Infix.Comma tt
   comma-good p e x fs (f ∷ gs) k = join-good p e fs (x, f ∷ gs) k Infix.Comma tt
@@ -125,15 +125,15 @@ module _ (least : ℕ) (goal : IsGoal least) where
   paren-good e x fs (InParen m ∷ gs) k = (
     (k.stands.2, (k.of.0, k.stands.1)),
     ap (λ ks. stack_spell gs ++ ks) (last (kind.Sign sign.OpenParen ∷ []) (spell x) (kind.Sign sign.CloseParen ∷ []))
-    ∙ last (stack_spell gs) (kind.Sign sign.OpenParen ∷ spell x) (kind.Sign sign.CloseParen ∷ [])
-    ∙ ap (λ ks. ks ++ kind.Sign sign.CloseParen ∷ []) (last (stack_spell gs) (kind.Sign sign.OpenParen ∷ []) (spell x) ∙ k.spelled),
+        ∙ last (stack_spell gs) (kind.Sign sign.OpenParen ∷ spell x) (kind.Sign sign.CloseParen ∷ [])
+        ∙ ap (λ ks. ks ++ kind.Sign sign.CloseParen ∷ []) (last (stack_spell gs) (kind.Sign sign.OpenParen ∷ []) (spell x) ∙ k.spelled),
   )
   paren-good e x fs (InCall m name es ∷ gs) k =
       let start = kind.Name name ∷ (kind.Sign sign.OpenParen ∷ spell_arguments_before es) in (
         (k.stands.2, ((k.stands.0.0, arguments-valid es x k.stands.0.1 k.of), k.stands.1)),
         ap (λ ks. stack_spell gs ++ kind.Name name ∷ (kind.Sign sign.OpenParen ∷ (ks ++ kind.Sign sign.CloseParen ∷ []))) (arguments-added es x)
-        ∙ last (stack_spell gs) (start ++ spell x) (kind.Sign sign.CloseParen ∷ [])
-        ∙ ap (λ ks. ks ++ kind.Sign sign.CloseParen ∷ []) (last (stack_spell gs) start (spell x) ∙ k.spelled),
+            ∙ last (stack_spell gs) (start ++ spell x) (kind.Sign sign.CloseParen ∷ [])
+            ∙ ap (λ ks. ks ++ kind.Sign sign.CloseParen ∷ []) (last (stack_spell gs) start (spell x) ∙ k.spelled),
       )
   paren-good e x fs (f ∷ gs) k = tt
 
@@ -142,21 +142,21 @@ module _ (least : ℕ) (goal : IsGoal least) where
   bracket-good e x fs (InIndex m b ∷ gs) k = (
     (k.stands.2, ((k.stands.0.0, k.stands.0.1, k.of.0), k.stands.1)),
     ap (λ ks. stack_spell gs ++ ks) (last (spell b) (kind.Sign sign.OpenBracket ∷ []) (spell x ++ kind.Sign sign.CloseBracket ∷ []))
-    ∙ ap (λ ks. stack_spell gs ++ ks) (last (spell b ++ kind.Sign sign.OpenBracket ∷ []) (spell x) (kind.Sign sign.CloseBracket ∷ []))
-    ∙ last (stack_spell gs) ((spell b ++ kind.Sign sign.OpenBracket ∷ []) ++ spell x) (kind.Sign sign.CloseBracket ∷ [])
-    ∙ ap (λ ks. ks ++ kind.Sign sign.CloseBracket ∷ []) (last (stack_spell gs) (spell b ++ kind.Sign sign.OpenBracket ∷ []) (spell x) ∙ k.spelled),
+        ∙ ap (λ ks. stack_spell gs ++ ks) (last (spell b ++ kind.Sign sign.OpenBracket ∷ []) (spell x) (kind.Sign sign.CloseBracket ∷ []))
+        ∙ last (stack_spell gs) ((spell b ++ kind.Sign sign.OpenBracket ∷ []) ++ spell x) (kind.Sign sign.CloseBracket ∷ [])
+        ∙ ap (λ ks. ks ++ kind.Sign sign.CloseBracket ∷ []) (last (stack_spell gs) (spell b ++ kind.Sign sign.OpenBracket ∷ []) (spell x) ∙ k.spelled),
   )
   bracket-good e x fs (InLength h ds ∷ gs) k =
       let start = head_spell h ++ (spell_dims ds ++ kind.Sign sign.OpenBracket ∷ []) in (
         (k.stands.2, k.stands.1, k.stands.0.0, dims-valid ds x k.stands.0.1 k.of),
         ap (λ ks. stack_spell gs ++ (head_spell h ++ ks))
-        (dims-added ds x ∙ last (spell_dims ds) (kind.Sign sign.OpenBracket ∷ []) (spell x ++ kind.Sign sign.CloseBracket ∷ [])
-        ∙ last (spell_dims ds ++ kind.Sign sign.OpenBracket ∷ []) (spell x) (kind.Sign sign.CloseBracket ∷ []))
-        ∙ ap (λ ks. stack_spell gs ++ ks)
-        (last (head_spell h) ((spell_dims ds ++ kind.Sign sign.OpenBracket ∷ []) ++ spell x) (kind.Sign sign.CloseBracket ∷ [])
-        ∙ ap (λ ks. ks ++ kind.Sign sign.CloseBracket ∷ []) (last (head_spell h) (spell_dims ds ++ kind.Sign sign.OpenBracket ∷ []) (spell x)))
-        ∙ last (stack_spell gs) (start ++ spell x) (kind.Sign sign.CloseBracket ∷ [])
-        ∙ ap (λ ks. ks ++ kind.Sign sign.CloseBracket ∷ []) (last (stack_spell gs) start (spell x) ∙ k.spelled),
+            (dims-added ds x ∙ last (spell_dims ds) (kind.Sign sign.OpenBracket ∷ []) (spell x ++ kind.Sign sign.CloseBracket ∷ [])
+            ∙ last (spell_dims ds ++ kind.Sign sign.OpenBracket ∷ []) (spell x) (kind.Sign sign.CloseBracket ∷ []))
+            ∙ ap (λ ks. stack_spell gs ++ ks)
+            (last (head_spell h) ((spell_dims ds ++ kind.Sign sign.OpenBracket ∷ []) ++ spell x) (kind.Sign sign.CloseBracket ∷ [])
+            ∙ ap (λ ks. ks ++ kind.Sign sign.CloseBracket ∷ []) (last (head_spell h) (spell_dims ds ++ kind.Sign sign.OpenBracket ∷ []) (spell x)))
+            ∙ last (stack_spell gs) (start ++ spell x) (kind.Sign sign.CloseBracket ∷ [])
+            ∙ ap (λ ks. ks ++ kind.Sign sign.CloseBracket ∷ []) (last (stack_spell gs) start (spell x) ∙ k.spelled),
       )
   bracket-good e x fs (f ∷ gs) k = tt
 
@@ -165,9 +165,9 @@ module _ (least : ℕ) (goal : IsGoal least) where
   colon-good e x fs (InThen m c ∷ gs) k = (
     (((k.stands.0, k.of.0), k.stands.1, k.stands.2), omega arith),
     ap (λ ks. stack_spell gs ++ ks) (last (spell c) (kind.Sign sign.Question ∷ []) (spell x ++ kind.Sign sign.Colon ∷ []))
-    ∙ ap (λ ks. stack_spell gs ++ ks) (last (spell c ++ kind.Sign sign.Question ∷ []) (spell x) (kind.Sign sign.Colon ∷ []))
-    ∙ last (stack_spell gs) ((spell c ++ kind.Sign sign.Question ∷ []) ++ spell x) (kind.Sign sign.Colon ∷ [])
-    ∙ ap (λ ks. ks ++ kind.Sign sign.Colon ∷ []) (last (stack_spell gs) (spell c ++ kind.Sign sign.Question ∷ []) (spell x) ∙ k.spelled),
+        ∙ ap (λ ks. stack_spell gs ++ ks) (last (spell c ++ kind.Sign sign.Question ∷ []) (spell x) (kind.Sign sign.Colon ∷ []))
+        ∙ last (stack_spell gs) ((spell c ++ kind.Sign sign.Question ∷ []) ++ spell x) (kind.Sign sign.Colon ∷ [])
+        ∙ ap (λ ks. ks ++ kind.Sign sign.Colon ∷ []) (last (stack_spell gs) (spell c ++ kind.Sign sign.Question ∷ []) (spell x) ∙ k.spelled),
   )
   colon-good e x fs (f ∷ gs) k = tt
 

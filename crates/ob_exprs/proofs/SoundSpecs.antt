@@ -56,7 +56,7 @@ module _ (least : ℕ) (goal : IsGoal least) where
   more-stars-good (OfType m z s n) DimTrees.NoDims fs st f v w = (
     (st, f, v, tt),
     ap (λ ks. stack_spell fs ++ ((type_start z ++ (spell_spec s ++ ks)) ++ [])) (stars-more n)
-    ∙ simp (append_assoc, append-nil),
+        ∙ simp (append_assoc, append-nil),
   )
   more-stars-good (OfType m z s n) (DimTrees.Unsized ds) fs st f v w = tt
   more-stars-good (OfType m z s n) (DimTrees.Sized e ds) fs st f v w = tt
@@ -108,13 +108,13 @@ module _ (least : ℕ) (goal : IsGoal least) where
   declare-good p (kind.Sign sign.Star) l n fs t st f v = (
     (st, f, v),
     ap (λ ks. stack_spell fs ++ (line_spell l ++ ks)) (stars-more n)
-    ∙ ap (λ ks. stack_spell fs ++ ks) (last (line_spell l) (stars n) (kind.Sign sign.Star ∷ []))
-    ∙ last (stack_spell fs) (line_spell l ++ stars n) (kind.Sign sign.Star ∷ []),
+        ∙ ap (λ ks. stack_spell fs ++ ks) (last (line_spell l) (stars n) (kind.Sign sign.Star ∷ []))
+        ∙ last (stack_spell fs) (line_spell l ++ stars n) (kind.Sign sign.Star ∷ []),
   )
   declare-good p (kind.Name name) l n fs t st f v = (
     (st, f, (v, name-of name t), tt),
     ap (λ ks. stack_spell fs ++ ks) (append-nil (line_spell l ++ (stars n ++ kind.Name name ∷ [])) ∙ last (line_spell l) (stars n) (kind.Name name ∷ []))
-    ∙ last (stack_spell fs) (line_spell l ++ stars n) (kind.Name name ∷ []),
+        ∙ last (stack_spell fs) (line_spell l ++ stars n) (kind.Name name ∷ []),
   )
   declare-good p (kind.Sign s) l n fs t st f v = tt
   declare-good p (kind.Number value ty) l n fs t st f v = tt
@@ -181,7 +181,7 @@ module _ (least : ℕ) (goal : IsGoal least) where
       let xs = spell_members (MemberTrees.MemberLine s names ms) in (
         (st, h, (v, tt, w)),
         ap (λ ks. stack_spell fs ++ kind.Word word.Struct ∷ ks) (last (spell_name tag) (kind.Sign sign.OpenBrace ∷ xs) (kind.Sign sign.CloseBrace ∷ []))
-        ∙ last (stack_spell fs) (kind.Word word.Struct ∷ (spell_name tag ++ kind.Sign sign.OpenBrace ∷ xs)) (kind.Sign sign.CloseBrace ∷ []),
+            ∙ last (stack_spell fs) (kind.Word word.Struct ∷ (spell_name tag ++ kind.Sign sign.OpenBrace ∷ xs)) (kind.Sign sign.CloseBrace ∷ []),
       )
 
   members-good : (p : ℕ) (k : TokenKind) (b : Body) (fs : List Frame) → Stands least fs → TakesSpec least fs → BodyOk b

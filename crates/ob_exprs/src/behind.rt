@@ -13,7 +13,7 @@ use crate::nodes::{call, index, paren};
 use crate::operators::{binary_level, is_assign, left_level, level_of_operator};
 use crate::postfix::sign_place;
 use crate::reader::{Answer, Reader};
-use crate::stack::{pop, push, top_hole, Stack};
+use crate::stack::{Stack, pop, push, top_hole};
 use crate::state::{Mode, Operator, Waiting};
 use crate::whole::Whole;
 use ob_base::NoMemory;
@@ -230,13 +230,7 @@ fn colon(stack: Stack, whole: Whole) -> Result<Answer, NoMemory>
 }
 
 /// An operator, or a sign that is none.
-fn operator(
-    stack: Stack,
-    whole: Whole,
-    sign: Sign,
-    at: u32,
-    least: u32,
-) -> Result<Answer, NoMemory>
+fn operator(stack: Stack, whole: Whole, sign: Sign, at: u32, least: u32) -> Result<Answer, NoMemory>
     requires { load (After (expr_tree whole.expr) (held stack)) ≤ 256 }
     ensures { IfOk result (λ a. Answers (After (expr_tree whole.expr) (held stack)) a (operator_behind least at sign (expr_tree whole.expr, held stack))) }
 {

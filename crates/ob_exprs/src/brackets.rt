@@ -10,7 +10,7 @@ use crate::lists::{add_members, add_name, no_dims, type_name};
 use crate::nodes::size_of_type;
 use crate::operands::copy_of;
 use crate::reader::Reader;
-use crate::stack::{push, Stack};
+use crate::stack::{Stack, push};
 use crate::state::{Body, Head, Line, Mode, Waiting};
 use crate::whole::Dims;
 use ob_base::NoMemory;

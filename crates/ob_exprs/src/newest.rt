@@ -11,7 +11,10 @@ fn line_height(line: &Line) -> usize
     ensures exact { result ≡ line_height_of (line_of line.now) }
     ensures small { result ≤ 2 ^ 32 }
 {
-    line.body.members.height.max(line.spec.height.max(line.names.height)) as usize
+    line.body
+        .members
+        .height
+        .max(line.spec.height.max(line.names.height)) as usize
 }
 
 fn head_height(head: &Head) -> usize

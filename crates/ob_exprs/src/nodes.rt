@@ -245,12 +245,7 @@ pub fn size_of_type(place: Place, name: WholeType) -> Whole
     }
 }
 
-pub fn cast(
-    alloc: Global,
-    place: Place,
-    name: WholeType,
-    operand: Whole,
-) -> Result<Whole, NoMemory>
+pub fn cast(alloc: Global, place: Place, name: WholeType, operand: Whole) -> Result<Whole, NoMemory>
     requires low { height_type (type_tree name.name) < 1000 }
     requires small { height_of (expr_tree operand.expr) < 1000 }
     ensures { IfOk result (λ w. expr_tree w.expr ≡ ExprTree.Cast (mark place) (type_tree name.name) (expr_tree operand.expr)) }

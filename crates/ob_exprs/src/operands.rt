@@ -10,7 +10,7 @@ use crate::nodes::{eof, name, null, number, string};
 use crate::operators::is_unary;
 use crate::reader::Reader;
 use crate::spec_nodes::{integer, size_t, void};
-use crate::stack::{push, Stack};
+use crate::stack::{Stack, push};
 use crate::state::{Mode, Place, Waiting};
 use ob_base::{NoMemory, Text};
 use ob_tree::{Keyword, Sign, TokenKind};

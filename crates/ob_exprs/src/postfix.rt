@@ -9,7 +9,7 @@ ghost use Rattle.ob_exprs.specs.View.{mark};
 
 use crate::nodes::step_behind;
 use crate::reader::{Answer, Reader};
-use crate::stack::{push, Stack};
+use crate::stack::{Stack, push};
 use crate::state::{Mode, Place, Waiting};
 use crate::whole::Whole;
 use ob_base::{NoMemory, Text};

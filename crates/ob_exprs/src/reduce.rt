@@ -6,7 +6,7 @@ ghost use Rattle.ob_exprs.specs.Loads.{depth_of, inner as inner_of, load};
 ghost use Rattle.ob_exprs.specs.View.{closed_top, frame_of, frames};
 
 use crate::nodes::{cast, conditional, join, size_of_expr, step_before, unary};
-use crate::stack::{pop, top_grip, Stack};
+use crate::stack::{Stack, pop, top_grip};
 use crate::state::Waiting;
 use crate::whole::Whole;
 use ob_base::NoMemory;

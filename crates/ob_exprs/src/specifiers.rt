@@ -15,7 +15,7 @@ use crate::lists::{no_dims, no_members, no_names};
 use crate::operands::{copy_of, specifier};
 use crate::reader::{Answer, Reader};
 use crate::spec_nodes::{integer, structure, tag};
-use crate::stack::{pop, push, Stack};
+use crate::stack::{Stack, pop, push};
 use crate::state::{Body, Head, Line, Mode, Place, Waiting};
 use crate::whole::WholeSpec;
 use ob_base::NoMemory;

@@ -70,9 +70,7 @@ pub fn push(stack: Stack, waiting: Waiting) -> Result<Stack, NoMemory>
     ensures { IfOk result (λ s. frames s.waiting.items ≡ frame_of waiting ∷ frames stack.waiting.items) }
 {
     let depth = stack.depth + rise(&waiting);
-    let Stack {
-        waiting: items, ..
-    } = stack;
+    let Stack { waiting: items, .. } = stack;
     let mut items = items;
     push_waiting(&mut items, waiting)?;
     Ok(Stack {

@@ -10,7 +10,7 @@ use crate::lists::no_arguments;
 use crate::nodes::{call, selected};
 use crate::operands::{begins_spec, copy_of, operand, operand_word, spec_word};
 use crate::reader::Reader;
-use crate::stack::{push, top_hole, Stack};
+use crate::stack::{Stack, push, top_hole};
 use crate::state::{Mode, Place, Waiting};
 use crate::whole::Whole;
 use ob_base::{NoMemory, Text};

@@ -248,8 +248,8 @@ module _ (lines : ℕ → ℕ) (least p : ℕ) where
   size-list size ks fs (inr f) =
       let m = here lines (p + 1) in
       rw f.are (
-        ap (λ o. run lines least (p + 1 + 1) f.rest o) (size-opened-operand m size (here lines p) f.token fs f.begins)
-        ∙ ap (λ o. run lines least (p + 1 + 1) f.rest o) (sym (opened-operand least m (here lines p) f.token (InSize size ∷ fs) f.begins))
+      ap (λ o. run lines least (p + 1 + 1) f.rest o) (size-opened-operand m size (here lines p) f.token fs f.begins)
+      ∙ ap (λ o. run lines least (p + 1 + 1) f.rest o) (sym (opened-operand least m (here lines p) f.token (InSize size ∷ fs) f.begins))
       )
 
   pub open-spec-list : (paren : Mark) (ks : List TokenKind) (fs : List Frame) → FirstOf BeginsSpec ks → top_hole least fs ≤ 13

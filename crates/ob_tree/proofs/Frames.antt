@@ -154,4 +154,3 @@ add_member (MemberTrees.MemberLine t others ms) s names = MemberTrees.MemberLine
 -- a mark with the sign at q
 abbrev pub at_sign : Mark → (q : ℕ) → Mark
 at_sign m q = record { first = m.first; at = q; line = m.line }
-

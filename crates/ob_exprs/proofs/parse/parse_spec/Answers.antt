@@ -10,8 +10,8 @@ pub returns-in_err-reader : goal.returns-in_err-reader
 returns-in_err-reader c =
     let p = err_from_is_err_and c.from_residual.result c.from_residual.ensures.1 in
     rw (p.1, p.2) (
-      spec-fault c.args.tokens.now.items c.args.from c.args.depth (held c.empty.result) c.empty.ensures c.requires.of_source c.requires.from_in c.requires.depth_in c.in_err-reader.field-0.0
-      (subst (λ ts. Reads (reading ts 17 c.args.depth c.args.from (Specifier (held c.empty.result))) (Err c.in_err-reader.field-0.0)) c.as_slice.ensures.value c.in_err-reader.ensures.reads)
+    spec-fault c.args.tokens.now.items c.args.from c.args.depth (held c.empty.result) c.empty.ensures c.requires.of_source c.requires.from_in c.requires.depth_in c.in_err-reader.field-0.0
+    (subst (λ ts. Reads (reading ts 17 c.args.depth c.args.from (Specifier (held c.empty.result))) (Err c.in_err-reader.field-0.0)) c.as_slice.ensures.value c.in_err-reader.ensures.reads)
     )
 
 pub returns-in-Some : goal.returns-in-Some
