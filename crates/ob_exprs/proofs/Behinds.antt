@@ -1,5 +1,5 @@
 -- What the steps behind whole operands need of the machine.
-use Rattle.std.proofs.Common.{◌≡◌, ℕ, ◌≤◌, ◌<◌, max, List, [], ◌∷◌, Bool, true, false, Option, Some, None, refl, sym, ◌∙◌, ap, subst, arith}
+use Rattle.std.proofs.Common.{◌≡◌, ℕ, ◌≤◌, ◌<◌, max, List, ◌∷◌, false, Option, Some, None, refl, sym, ◌∙◌, ap, subst, arith}
 use Rattle.std.specs.Prelude.{Result, Ok, Err, IfOk}
 use Rattle.ob_base.specs.declared.text.NoMemory.{NoMemory}
 use Rattle.ob_tree.specs.declared.tokens.Sign.{Sign}
@@ -17,7 +17,7 @@ use Rattle.ob_exprs.specs.declared.reader.Reader.{Reader}
 use Rattle.ob_exprs.specs.declared.reader.Answer.{Answer}
 use Rattle.ob_exprs.specs.declared.reader.Answer.TheVariants as answer
 use Rattle.ob_exprs.specs.Loads.{depth_of, load}
-use Rattle.ob_exprs.specs.Reading.{Leads, Answers, state_of}
+use Rattle.ob_exprs.specs.Reading.{Leads, Answers}
 use Rattle.ob_exprs.specs.Behind.{is_postfix, closing_level, behind, answered}
 use Rattle.ob_exprs.proofs.Heights.{depth-load}
 

@@ -8,14 +8,13 @@ use Rattle.ob_tree.specs.declared.tokens.Keyword.{Keyword}
 use Rattle.ob_tree.specs.declared.tokens.Keyword.TheVariants as word
 use Rattle.ob_tree.specs.declared.tokens.Sign.{Sign}
 use Rattle.ob_tree.specs.declared.tokens.Sign.TheVariants as sign
-use Rattle.ob_tree.specs.Trees.{Mark, Infix, ExprTree, ExprTrees, SpecTree, MemberTrees, DimTrees, ObjTrees, TypeTree}
+use Rattle.ob_tree.specs.Trees.{Mark, Infix, ExprTree, ExprTrees, SpecTree, MemberTrees, DimTrees, ObjTrees}
 use Rattle.ob_tree.specs.Integers.{is_integer}
 use Rattle.ob_tree.specs.Levels.{binary_level, is_assign, is_unary, infix_level, left_level, level_of, mark_of}
-use Rattle.ob_tree.proofs.Frames.{Head, OfType, OfMember, Body, Line, Frame, InParen, InIndex, InCall, InStep, InUnary, InSize, InCast, InJoin, InThen, InElse, InLength, InType, InStruct, State, Operand, Open, Size, SizeOpen, Called, Select, After, Specifier, StructWord, Members, Declare, Dims, AfterSpec, grip, top_hole, close, reduce, at_sign}
-use Rattle.ob_tree.proofs.Machine.{is_spec_word, spec_word, specifier, operand_word, operand_sign, operand, opened, sized, size_opened, called, select, index_to, select_to, step_to, call_to, string_to, join_to, then_to, comma_to, close_paren, close_bracket, colon_to, operator_to, after_sign, after, more_stars, close_type, next_name, end_line, dims_sign, after_dims, declare, spec_under, word_to, brace_to, after_spec, struct_to, close_struct, members_to, step}
+use Rattle.ob_tree.proofs.Frames.{Head, OfType, OfMember, Body, Line, Frame, InParen, InIndex, InCall, InUnary, InSize, InJoin, InThen, InLength, InType, InStruct, State, Operand, Open, Size, SizeOpen, Called, Select, After, Specifier, StructWord, Members, Declare, Dims, AfterSpec, grip, top_hole, close, reduce, at_sign}
+use Rattle.ob_tree.proofs.Machine.{is_spec_word, spec_word, specifier, operand_word, operand_sign, operand, opened, sized, size_opened, called, select, call_to, string_to, join_to, then_to, comma_to, close_paren, close_bracket, colon_to, operator_to, after_sign, after, dims_sign, after_dims, declare, spec_under, word_to, brace_to, after_spec, struct_to, close_struct, members_to, step}
 use Rattle.ob_tree.proofs.Settled.{lt-yes, lt-no}
-use Rattle.ob_exprs.specs.Loads.{depth_of, load_stack, newest_stack, newest, load}
-use Rattle.ob_exprs.proofs.Heights.{depth-load}
+use Rattle.ob_exprs.specs.Loads.{depth_of, load_stack, newest, load}
 use Rattle.ob_exprs.proofs.Kept.{close-load}
 
 abbrev pub Light : (before : ℕ) → Option State → Type 0

@@ -1,5 +1,5 @@
 -- The loop that reads token by token.
-use Rattle.std.proofs.Common.{◌≡◌, ℕ, zero, suc, ◌+◌, ◌-◌, ◌<◌, ◌≤◌, max, List, [], ◌∷◌, length, take, drop, map, get_or, Bool, true, false, Option, Some, None, cond, option_map, refl, sym, ◌∙◌, ap, subst, arith}
+use Rattle.std.proofs.Common.{◌≡◌, ℕ, zero, suc, ◌+◌, ◌-◌, ◌<◌, ◌≤◌, max, List, [], ◌∷◌, length, take, drop, map, get_or, true, false, Option, Some, None, cond, option_map, refl, sym, ◌∙◌, ap, subst, arith}
 use Rattle.std.specs.Prelude.{nat_le, Err}
 use Rattle.ob_tree.specs.declared.faults.SyntaxFault.{SyntaxFault}
 use Rattle.ob_tree.specs.declared.faults.SyntaxFault.TheVariants as fault
@@ -10,12 +10,11 @@ use Rattle.std.proofs.lemmas.Bool.Decides.{nat_tests}
 use Rattle.ob_tree.specs.declared.tokens.Token.{Token}
 use Rattle.ob_tree.specs.declared.expressions.Expr.{Expr}
 use Rattle.ob_tree.specs.declared.expressions.Spec.{Spec}
-use Rattle.ob_tree.specs.Trees.{ExprTree, SpecTree}
 use Rattle.ob_tree.specs.ExpressionView.{expr_tree, spec_tree}
 use Rattle.ob_tree.specs.Places.{here}
 use Rattle.ob_tree.specs.Valid.{IsOfSource}
 use Rattle.ob_tree.specs.Fronts.{lines, kinds}
-use Rattle.ob_tree.specs.Answers.{Verdict, Whole, NoTree, TooDeep}
+use Rattle.ob_tree.specs.Answers.{Whole, NoTree, TooDeep}
 use Rattle.ob_tree.proofs.Frames.{Frame, State, Operand, Specifier}
 use Rattle.ob_tree.proofs.Machine.{step, finish, finish_spec}
 use Rattle.ob_tree.proofs.Readings as machine

@@ -3,9 +3,9 @@ use Rattle.std.proofs.Common.{◌≡◌, ℕ, ◌<◌, ◌≤◌, List, [], ◌�
 use Rattle.std.proofs.lemmas.Bool.{cases_lt}
 use Rattle.ob_tree.specs.Trees.{ExprTree}
 use Rattle.ob_tree.specs.Paths.{height}
-use Rattle.ob_tree.proofs.Frames.{Frame, After, State, grip, close, reduce}
+use Rattle.ob_tree.proofs.Frames.{Frame, After, grip, close, reduce}
 use Rattle.ob_tree.proofs.Settled.{lt-yes, lt-no, top_grip}
-use Rattle.ob_exprs.specs.Loads.{depth_of, inner, load_stack, load}
+use Rattle.ob_exprs.specs.Loads.{depth_of, inner, load}
 use Rattle.ob_exprs.specs.View.{closed_top}
 use Rattle.ob_exprs.proofs.Heights.{depth-load}
 use Rattle.ob_exprs.proofs.Kept.{close-load}

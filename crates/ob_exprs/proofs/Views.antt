@@ -8,10 +8,10 @@ use Rattle.ob_tree.specs.declared.expressions.ExprNode.TheBlock as block
 use Rattle.ob_tree.specs.declared.expressions.ExprNode.TheBlock.{Row_of-Expr, end_of-Expr, more_of-Expr, items-the_row-Expr, items_hidden-the_row-Expr-0, Row_of-MemberDecl, end_of-MemberDecl, more_of-MemberDecl, items-the_row-MemberDecl, items_hidden-the_row-MemberDecl-2, Row_of-ObjDecl, end_of-ObjDecl, more_of-ObjDecl, items-the_row-ObjDecl, items_hidden-the_row-ObjDecl-3, Row_of-Dim, end_of-Dim, more_of-Dim, items-the_row-Dim, items_hidden-the_row-Dim-4, Dim-length-None', Dim-length-Some'}
 use Rattle.ob_tree.specs.declared.expressions.Spec.{Spec}
 use Rattle.ob_tree.specs.declared.expressions.SpecNode as spec
-use Rattle.ob_tree.specs.declared.expressions.MemberDecl.{MemberDecl, MemberDecl', out-MemberDecl, roll-MemberDecl, out-roll-MemberDecl, is-MemberDecl'}
-use Rattle.ob_tree.specs.declared.expressions.ObjDecl.{ObjDecl, out-ObjDecl, roll-ObjDecl, out-roll-ObjDecl, is-ObjDecl', ObjDecl'}
-use Rattle.ob_tree.specs.declared.expressions.Dim.{Dim, Dim', out-Dim, roll-Dim, out-roll-Dim, is-Dim'}
-use Rattle.ob_tree.specs.declared.expressions.TypeName.{TypeName, TypeName', out-TypeName, roll-TypeName, out-roll-TypeName, is-TypeName'}
+use Rattle.ob_tree.specs.declared.expressions.MemberDecl.{MemberDecl, MemberDecl', roll-MemberDecl, out-roll-MemberDecl, is-MemberDecl'}
+use Rattle.ob_tree.specs.declared.expressions.ObjDecl.{ObjDecl, roll-ObjDecl, out-roll-ObjDecl, is-ObjDecl'}
+use Rattle.ob_tree.specs.declared.expressions.Dim.{Dim, Dim', roll-Dim, out-roll-Dim, is-Dim'}
+use Rattle.ob_tree.specs.declared.expressions.TypeName.{TypeName', roll-TypeName, out-roll-TypeName, is-TypeName'}
 use Rattle.ob_tree.specs.Trees.{ExprTree, ExprTrees, TypeTree, SpecTree, MemberTrees, ObjTree, ObjTrees, DimTrees}
 use Rattle.ob_tree.specs.Paths.{height, height_arguments, height_spec, height_members, height_objs, height_obj, height_dims}
 use Rattle.ob_tree.specs.ExpressionView.{marked, expr_tree, node_tree, argument_row, spec_tree, spec_node_tree, type_tree, member_row, obj_row, obj_tree, obj_trees, held_init, dim_row, dim_trees}
