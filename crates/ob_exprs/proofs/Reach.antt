@@ -9,11 +9,11 @@ use Rattle.ob_tree.specs.Levels.{left_level}
 use Rattle.ob_tree.specs.Valid.{Valid, ValidArguments, ValidType, ValidSpec, ValidMembers, ValidMemberNames, ValidMemberName, ValidDims, HasDeclarator, IsOf}
 use Rattle.ob_tree.specs.Places.{here, signed, place, place_type, place_spec, place_objs, place_obj, place_dims, width, width_type, width_spec, width_objs, width_obj, width_dims}
 use Rattle.ob_tree.specs.Paths.{begun, begun_arguments, begun_type, begun_spec, begun_members, begun_objs, begun_obj, begun_dims, height, height_arguments, height_spec, height_members, height_objs, height_obj, height_dims, height_type}
-use Rattle.ob_tree.proofs.Frames.{Head, OfType, OfMember, Body, Line, Frame, InParen, InIndex, InCall, InStep, InUnary, InSize, InCast, InJoin, InThen, InElse, InLength, InType, InStruct, State, Operand, Open, SizeOpen, Called, Select, After, Specifier, Members, Declare, Dims, AfterSpec, add_argument, add_dim, add_obj, top_hole}
+use Rattle.ob_tree.proofs.Frames.{Head, OfType, OfMember, Body, Line, Frame, InParen, InIndex, InCall, InStep, InUnary, InSize, InCast, InJoin, InThen, InElse, InLength, InType, InStruct, State, Operand, Open, SizeOpen, Called, After, Specifier, Members, Declare, Dims, AfterSpec, add_argument, add_dim, add_obj, top_hole}
 use Rattle.ob_tree.proofs.Machine.{ended, run}
 use Rattle.ob_tree.proofs.PlaceKeeps.{mark-place, valid-place, of-place, valid-name}
 use Rattle.ob_tree.proofs.Settled.{settled}
-use Rattle.ob_tree.proofs.SignSteps.{step-join, step-question, step-index, step-dot, step-arrow, step-up, step-down, step-paren, step-argument, step-called, step-bracket, step-length, step-colon}
+use Rattle.ob_tree.proofs.SignSteps.{step-join, step-question, step-index, step-up, step-down, step-paren, step-argument, step-called, step-bracket, step-length, step-colon}
 use Rattle.ob_tree.proofs.Runs.{run-step}
 use Rattle.ob_tree.proofs.FirstTokens.{FirstOf, BeginsOperand, BeginsSpec, first-take, first-operand, first-unary, first-spec, open-list, call-list, open-spec-list, size-spec-list, members-list}
 use Rattle.ob_tree.proofs.SpecSteps.{more_names, add_name, length-stars, obj_state, type_state, type-stars, member-stars, name-comma, name-semi}
@@ -22,7 +22,7 @@ use Rattle.ob_exprs.specs.Loads.{count, head_rise, head_height, line_height, dep
 use Rattle.ob_exprs.proofs.Begun.{begun-full, full-type, full-spec, full-names, full-name, full-dims}
 use Rattle.ob_exprs.proofs.Heights.{height-place, type-place, spec-place, objs-place, obj-place, dims-place, arguments-height, dims-height, dims-count, objs-height, members-height, depth-load}
 use Rattle.ob_exprs.proofs.Within.{Within, newest-stack, within-on, within-then, within-end, within-same, within-as, strings-reach, integer-reach, type-stars-reach, member-stars-reach, type-on-part}
-use Rattle.ob_exprs.proofs.ReachParts.{type-load, length-more, within-name, obj-on-part, reach-size, reach-body}
+use Rattle.ob_exprs.proofs.ReachParts.{member-reach, arrow-reach, type-load, length-more, obj-on-part, reach-size, reach-body}
 
 module _ (lines : ℕ → ℕ) (least : ℕ) where
   mutual
@@ -91,23 +91,9 @@ module _ (lines : ℕ → ℕ) (least : ℕ) where
         let he : height e' ≡ begun e (suc k) = height-place lines q e ∙ sym (begun-full e (suc k) v.0.1.0 (omega arith)) in
         reach-arguments es j (q + width e) m c name ExprTrees.NoArguments e' fs v.0.1.2 (valid-place lines q e v.0.1.0) l (omega arith) (omega arith)))
     reach (ExprTree.Member n b name) (suc k) p m fs v l d =
-        let b' = place lines p b in
-        let q = p + width b in
-        within-then lines least p (suc k) m (spell b) (kind.Sign sign.Dot) (kind.Name name ∷ []) (Some (Operand fs)) (settled b' fs) (Some (Select (signed lines p q) false b' fs))
-        (through lines least b p fs (v.0.0, omega (arith, v.1, v.0.1)))
-        (step-dot least (here lines q) b' fs (of-place lines p 15 b (v.0.0, v.0.1)).1 ∙ ap (λ k. Some (Select k false b' fs)) (mark-place lines p q b))
-        (λ h. reach b (suc k) p m fs (v.0.0, omega (arith, v.1, v.0.1)) l (omega arith))
-        (λ j n. let hb : height b' ≡ begun b (suc k) = height-place lines p b ∙ sym (begun-full b (suc k) v.0.0 (omega arith)) in
-        within-name lines least (signed lines p q) false b' name j (q + 1) m fs l (omega arith))
+        member-reach lines least n b name k p m fs v l d (reach b (suc k) p m fs (v.0.0, omega (arith, v.1, v.0.1)) l (omega arith))
     reach (ExprTree.Arrow n b name) (suc k) p m fs v l d =
-        let b' = place lines p b in
-        let q = p + width b in
-        within-then lines least p (suc k) m (spell b) (kind.Sign sign.Arrow) (kind.Name name ∷ []) (Some (Operand fs)) (settled b' fs) (Some (Select (signed lines p q) true b' fs))
-        (through lines least b p fs (v.0.0, omega (arith, v.1, v.0.1)))
-        (step-arrow least (here lines q) b' fs (of-place lines p 15 b (v.0.0, v.0.1)).1 ∙ ap (λ k. Some (Select k true b' fs)) (mark-place lines p q b))
-        (λ h. reach b (suc k) p m fs (v.0.0, omega (arith, v.1, v.0.1)) l (omega arith))
-        (λ j n. let hb : height b' ≡ begun b (suc k) = height-place lines p b ∙ sym (begun-full b (suc k) v.0.0 (omega arith)) in
-        within-name lines least (signed lines p q) true b' name j (q + 1) m fs l (omega arith))
+        arrow-reach lines least n b name k p m fs v l d (reach b (suc k) p m fs (v.0.0, omega (arith, v.1, v.0.1)) l (omega arith))
     reach (ExprTree.Step n false false e) (suc k) p m fs v l d =
         let g : suc k - 1 ≡ k = omega arith in
         let d' : depth_of fs + (1 + begun e k) ≤ m = rw g at d in

@@ -5,18 +5,20 @@ use Rattle.ob_tree.specs.declared.tokens.TokenKind.TheVariants as kind
 use Rattle.ob_tree.specs.declared.tokens.Sign.TheVariants as sign
 use Rattle.ob_tree.specs.Trees.{Mark, ExprTree, TypeTree, SpecTree, MemberTrees, ObjTree, ObjTrees}
 use Rattle.ob_tree.specs.Spelling.{spell, spell_members, spell_obj, spell_dims, stars}
-use Rattle.ob_tree.specs.Valid.{ValidMembers, ValidMemberName, HasMember}
-use Rattle.ob_tree.specs.Places.{here, place_members}
-use Rattle.ob_tree.specs.Paths.{begun_members, height, height_members, height_type}
-use Rattle.ob_tree.proofs.Frames.{Body, Frame, InSize, InStruct, Operand, Size, Select, After, Members, Declare, AfterSpec}
+use Rattle.ob_tree.specs.Valid.{ValidMembers, ValidMemberName, HasMember, IsOf}
+use Rattle.ob_tree.specs.Places.{here, signed, place, place_members, width}
+use Rattle.ob_tree.specs.Paths.{begun, begun_members, height, height_members, height_type}
+use Rattle.ob_tree.proofs.Frames.{Body, Frame, top_hole, InSize, InStruct, Operand, Size, Select, After, Members, Declare, AfterSpec}
 use Rattle.ob_tree.proofs.Machine.{run}
-use Rattle.ob_tree.proofs.PlaceKeeps.{has-member}
+use Rattle.ob_tree.proofs.PlaceKeeps.{has-member, mark-place, of-place}
+use Rattle.ob_tree.proofs.Settled.{settled}
+use Rattle.ob_tree.proofs.SignSteps.{step-dot, step-arrow}
 use Rattle.ob_tree.proofs.FirstTokens.{UnaryFirst, NoParen, first-take, paren-take, size-list}
 use Rattle.ob_tree.proofs.SpecSteps.{more_members, type_state, struct-ends}
-use Rattle.ob_tree.proofs.Through.{through-members}
+use Rattle.ob_tree.proofs.Through.{through, through-members}
 use Rattle.ob_exprs.specs.Loads.{depth_of, load_stack}
-use Rattle.ob_exprs.proofs.Begun.{full-members}
-use Rattle.ob_exprs.proofs.Heights.{members-place}
+use Rattle.ob_exprs.proofs.Begun.{begun-full, full-members}
+use Rattle.ob_exprs.proofs.Heights.{height-place, members-place}
 use Rattle.ob_exprs.proofs.Within.{Within, within-then, within-end, within-same, within-as, line-on-part}
 
 -- what a type name leaves has its nodes
@@ -73,3 +75,29 @@ module _ (lines : ℕ → ℕ) (least : ℕ) where
       (λ _. w)
       (λ j n. let hm : height_members ms' ≡ begun_members ms k = members-place lines p ms ∙ sym (full-members ms k v (omega arith)) in
       within-end lines least _ j m (Some (AfterSpec (SpecTree.Struct first tag ms') fs)) (omega arith))
+
+  pub member-reach : (n : Mark) (b : ExprTree) (name : List ℕ) (k p m : ℕ) (fs : List Frame) → IsOf (top_hole least fs) (ExprTree.Member n b name)
+      → load_stack fs ≤ m → depth_of fs + (1 + begun b (suc k)) ≤ m → Within m (run lines least p (take (suc k) (spell b)) (Some (Operand fs)))
+      → Within m (run lines least p (take (suc k) (spell (ExprTree.Member n b name))) (Some (Operand fs)))
+  member-reach n b name k p m fs v l d w =
+      let b' = place lines p b in
+      let q = p + width b in
+      within-then lines least p (suc k) m (spell b) (kind.Sign sign.Dot) (kind.Name name ∷ []) (Some (Operand fs)) (settled b' fs) (Some (Select (signed lines p q) false b' fs))
+      (through lines least b p fs (v.0.0, omega (arith, v.1, v.0.1)))
+      (step-dot least (here lines q) b' fs (of-place lines p 15 b (v.0.0, v.0.1)).1 ∙ ap (λ k. Some (Select k false b' fs)) (mark-place lines p q b))
+      (λ _. w)
+      (λ j n. let hb : height b' ≡ begun b (suc k) = height-place lines p b ∙ sym (begun-full b (suc k) v.0.0 (omega arith)) in
+      within-name (signed lines p q) false b' name j (q + 1) m fs l (omega arith))
+
+  pub arrow-reach : (n : Mark) (b : ExprTree) (name : List ℕ) (k p m : ℕ) (fs : List Frame) → IsOf (top_hole least fs) (ExprTree.Arrow n b name)
+      → load_stack fs ≤ m → depth_of fs + (1 + begun b (suc k)) ≤ m → Within m (run lines least p (take (suc k) (spell b)) (Some (Operand fs)))
+      → Within m (run lines least p (take (suc k) (spell (ExprTree.Arrow n b name))) (Some (Operand fs)))
+  arrow-reach n b name k p m fs v l d w =
+      let b' = place lines p b in
+      let q = p + width b in
+      within-then lines least p (suc k) m (spell b) (kind.Sign sign.Arrow) (kind.Name name ∷ []) (Some (Operand fs)) (settled b' fs) (Some (Select (signed lines p q) true b' fs))
+      (through lines least b p fs (v.0.0, omega (arith, v.1, v.0.1)))
+      (step-arrow least (here lines q) b' fs (of-place lines p 15 b (v.0.0, v.0.1)).1 ∙ ap (λ k. Some (Select k true b' fs)) (mark-place lines p q b))
+      (λ _. w)
+      (λ j n. let hb : height b' ≡ begun b (suc k) = height-place lines p b ∙ sym (begun-full b (suc k) v.0.0 (omega arith)) in
+      within-name (signed lines p q) true b' name j (q + 1) m fs l (omega arith))
