@@ -1,2 +1,0 @@
-pub mod FoundView
-pub mod Gives
