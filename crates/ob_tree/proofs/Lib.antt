@@ -1,6 +1,3 @@
-pub mod Decimals
-pub mod Sums
-pub mod Prints
 pub mod Lists
 pub mod ProgramRows
 pub mod Rows

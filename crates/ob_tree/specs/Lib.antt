@@ -5,8 +5,6 @@ pub mod Constants
 pub mod Characters
 pub mod Spaces
 pub mod Pieces
-pub mod First
-pub mod Starts
 pub mod Trees
 pub mod Programs
 pub mod Spelling

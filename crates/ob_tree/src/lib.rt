@@ -1,12 +1,10 @@
 //! The tokens of a source text and the faults that it can have, the trees of the grammar, and the
-//! tokens that a tree spells (C99 6.4 to 6.9); and the texts that are run so far, which are read
-//! without tokens. Stands on `ob_base` and `ob_words`.
+//! tokens that a tree spells (C99 6.4 to 6.9). Stands on `ob_base` and `ob_words`.
 #![tactic(auto)]
 
 pub use constants::{Base, Suffix};
 pub use expressions::{Dim, Expr, ExprNode, Init, MemberDecl, ObjDecl, Spec, SpecNode, TypeName};
 pub use faults::{LexFault, LexKind, SourceFault, SyntaxFault, SyntaxKind, TypeFault, TypeKind};
-pub use first::{First, FirstFault, law_first_text, parse_first};
 pub use one_program::law_spell;
 pub use one_tree::{law_expression, law_specifier};
 pub use program_spelling::spell;
@@ -16,20 +14,15 @@ pub use programs::{
 pub use tokens::{Keyword, Sign, Span, Token, TokenKind};
 pub use types::{CType, MemberRow, StructRow, Structs};
 
-mod constant;
 mod constants;
 mod expressions;
 mod faults;
-mod first;
 mod one_program;
 mod one_tree;
 mod program_spelling;
 mod programs;
 mod spelling;
-mod statement;
-mod sum;
 #[cfg(test)]
 mod tests;
-mod text;
 mod tokens;
 mod types;
