@@ -1,6 +1,10 @@
-ghost use Rattle.std.specs.Prelude.{◌≡◌};
+ghost use Rattle.std.specs.Prelude.{◌≡◌, IfOk, string_bytes};
 ghost use Rattle.ob_program.specs.Answer.{line_of, status_of};
 ghost use Rattle.ob_words.specs.Conversion.{residue};
+
+use crate::refusal::Refusal;
+use ob_base::NoMemory;
+use std::alloc::Global;
 
 /// What the words came to, before the error sink was told.
 #[derive(Clone, Copy, Debug, PartialEq, Eq)]
@@ -9,7 +13,7 @@ pub(crate) enum Answer {
     Usage,
     FileFault,
     FileLong,
-    NotYet,
+    Refused(Refusal),
     WriteFault,
     NoMemory,
 }
@@ -24,25 +28,27 @@ impl Answer {
             Answer::Usage => 128,
             Answer::FileFault => 129,
             Answer::FileLong => 130,
+            Answer::Refused(refusal) => refusal.status(),
             Answer::WriteFault => 143,
             Answer::NoMemory => 144,
-            Answer::NotYet => 145,
         }
     }
 
-    /// The line that the error sink gets; none for a run that ended, a failed write and want of
-    /// memory.
-    pub(crate) fn line(self) -> &'static [u8]
-        ensures { result.now ≡ line_of self }
+    /// The line that the error sink gets, by the name of the file; none for a run that ended, a failed
+    /// write and want of memory.
+    pub(crate) fn line(self, alloc: Global, name: &str) -> Result<String, NoMemory>
+        ensures { IfOk result (λ line. string_bytes line ≡ line_of name.now self) }
     {
-        match self {
-            Answer::Usage =>
-                b"usage: oblivious run|compile|exec|check|audit|sample ARGUMENT [OPTIONS]\n",
-            Answer::FileFault => b"oblivious: FileFault\n",
-            Answer::FileLong => b"oblivious: FileLong\n",
-            Answer::NotYet => b"oblivious: NotYet\n",
-            Answer::Ended(_) | Answer::WriteFault | Answer::NoMemory => b"",
-        }
+        Ok(match self {
+            Answer::Usage => String::from_str(
+                alloc,
+                "usage: oblivious run|compile|exec|check|audit|sample ARGUMENT [OPTIONS]\n",
+            )?,
+            Answer::FileFault => String::from_str(alloc, "oblivious: FileFault\n")?,
+            Answer::FileLong => String::from_str(alloc, "oblivious: FileLong\n")?,
+            Answer::Refused(refusal) => refusal.line(alloc, name)?,
+            Answer::Ended(_) | Answer::WriteFault | Answer::NoMemory => String::new(alloc),
+        })
     }
 }
 

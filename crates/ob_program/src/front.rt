@@ -1,0 +1,95 @@
+ghost use Rattle.std.specs.Prelude.{◌≡◌, ◌≤◌, ◌^◌, length, IfOk, MatchResult};
+ghost use Rattle.std.specs.Option.{option_copied};
+ghost use Rattle.ob_tree.specs.ProgramSpelling.{spell_program};
+ghost use Rattle.ob_tree.specs.ProgramView.{program_tree};
+ghost use Rattle.ob_lexer.specs.Texts.{HasLexFault, Spells};
+ghost use Rattle.ob_program.specs.Answer.{Declines};
+ghost use Rattle.ob_program.specs.Sources.{IsTextOf, SyntaxFails, spot_behind, spot_of};
+
+use crate::answer::Answer;
+use crate::refusal::{Refusal, Spot};
+use ob_lexer::lex;
+use ob_parser::parse;
+use ob_tree::{LexFault, LexKind, Program, SyntaxFault, SyntaxKind, Token};
+use std::alloc::Global;
+
+/// The program that the bytes of a source are, of which there are at most 2^20 (C99 6.4 to 6.9). An error
+/// has the first fault of its tokens, else that of its syntax, with its place; or want of memory.
+pub(crate) fn front(alloc: Global, bytes: &[u8]) -> Result<Program, Answer>
+    requires { length bytes.now ≤ 2 ^ 20 }
+    ensures program { MatchResult result (λ program. IsTextOf bytes.now (program_tree program)) (Declines bytes.now) }
+    ensures few { IfOk result (λ program. length (spell_program (program_tree program)) ≤ 2 ^ 20) }
+{
+    let tokens = match lex(alloc, bytes) {
+        Ok(tokens) => tokens,
+        Err(fault) => return Err(lex_answer(bytes, fault)),
+    };
+    match parse(alloc, &tokens) {
+        Ok(program) => Ok(program),
+        Err(fault) => Err(syntax_answer(bytes, &tokens, fault)),
+    }
+}
+
+/// The answer to a text with a fault of its tokens.
+fn lex_answer(bytes: &[u8], fault: LexFault) -> Answer
+    requires short { length bytes.now ≤ 2 ^ 20 }
+    requires fault { HasLexFault bytes.now fault }
+    ensures { Declines bytes.now result }
+{
+    let (kind, at) = match fault {
+        LexFault::Stray(at) => (LexKind::Stray, at),
+        LexFault::Unclosed(at) => (LexKind::Unclosed, at),
+        LexFault::Wide(at) => (LexKind::Wide, at),
+        LexFault::NoMemory => return Answer::NoMemory,
+    };
+    Answer::Refused(Refusal::Lex(kind, spot_behind(&bytes[..at as usize])))
+}
+
+/// The answer to a text whose tokens are no program.
+fn syntax_answer(bytes: &[u8], tokens: &[Token], fault: SyntaxFault) -> Answer
+    requires short { length bytes.now ≤ 2 ^ 20 }
+    requires spelled { Spells tokens.now bytes.now }
+    requires fault { SyntaxFails tokens.now fault }
+    ensures { Declines bytes.now result }
+{
+    let (kind, at) = match fault {
+        SyntaxFault::NoTree(at) => (SyntaxKind::NoTree, at),
+        SyntaxFault::TooDeep(at) => (SyntaxKind::TooDeep, at),
+        SyntaxFault::NoMemory => return Answer::NoMemory,
+    };
+    Answer::Refused(Refusal::Syntax(
+        kind,
+        spot_of(bytes, tokens.get(at as usize)),
+    ))
+}
+
+/// The place of a token of a text; where there is none, the place behind the text.
+fn spot_of(text: &[u8], token: Option<&Token>) -> Spot
+    requires { length text.now ≤ 2 ^ 20 }
+    ensures { result ≡ spot_of text.now (option_copied token) }
+{
+    match token {
+        Some(token) => Spot {
+            line: token.span.line,
+            column: token.span.column,
+        },
+        None => spot_behind(text),
+    }
+}
+
+/// The place behind these bytes.
+fn spot_behind(before: &[u8]) -> Spot
+    requires { length before.now ≤ 2 ^ 20 }
+    ensures { result ≡ spot_behind before.now }
+{
+    let mut spot = Spot { line: 1, column: 1 };
+    for byte in before {
+        if *byte == b'\n' {
+            spot.line += 1;
+            spot.column = 1;
+        } else {
+            spot.column += 1;
+        }
+    }
+    spot
+}
