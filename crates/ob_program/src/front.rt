@@ -66,7 +66,7 @@ fn syntax_answer(bytes: &[u8], tokens: &[Token], fault: SyntaxFault) -> Answer
 /// The place of a token of a text; where there is none, the place behind the text.
 fn spot_of(text: &[u8], token: Option<&Token>) -> Spot
     requires { length text.now ≤ 2 ^ 20 }
-    ensures { result ≡ spot_of text.now (option_copied token) }
+    ensures { result ≡ spot_of text.now (option_copied token.entry) }
 {
     match token {
         Some(token) => Spot {

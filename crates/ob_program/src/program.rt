@@ -124,7 +124,7 @@ fn run<F: Folder, K: Sink, E: Sink>(
     out: &mut K,
     err: &mut E,
 ) -> Status
-    ensures { Runs (F.files folder.old) (F.faults folder.old) (F.faults folder.new) (option_copied job) result.code result.instructions
+    ensures { Runs (F.files folder.old) (F.faults folder.old) (F.faults folder.new) (option_copied job.entry) result.code result.instructions
         (record { taken_before = K.taken out.old; taken_now = K.taken out.new; tally_before = K.tally out.old; tally_now = K.tally out.new; faults_before = K.faults out.old; faults_now = K.faults out.new })
         (record { taken_before = E.taken err.old; taken_now = E.taken err.new; tally_before = E.tally err.old; tally_now = E.tally err.new; faults_before = E.faults err.old; faults_now = E.faults err.new }) }
 {

@@ -41,7 +41,7 @@ pub(crate) fn answer<F: Folder, K: Sink>(
     folder: &mut F,
     out: &mut K,
 ) -> Came
-    ensures { JobGives (F.files folder.old) (F.faults folder.old) (F.faults folder.new) (option_copied job) result.answer result.instructions
+    ensures { JobGives (F.files folder.old) (F.faults folder.old) (F.faults folder.new) (option_copied job.entry) result.answer result.instructions
         (record { taken_before = K.taken out.old; taken_now = K.taken out.new; tally_before = K.tally out.old; tally_now = K.tally out.new; faults_before = K.faults out.old; faults_now = K.faults out.new }) }
 {
     let Some(name) = job else {
