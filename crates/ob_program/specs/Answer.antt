@@ -7,13 +7,15 @@ use Rattle.ob_base.specs.Sink.{Tally, TakesPrefix, tally_known}
 use Rattle.ob_base.specs.Folder.{Files, IsMissing}
 use Rattle.ob_words.specs.Conversion.{residue}
 use Rattle.ob_model.specs.Endings.{InputEnd}
-use Rattle.ob_code.specs.declared.image.Image.{Image}
 use Rattle.ob_code.specs.Start.{flat_instructions}
 use Rattle.ob_program.specs.declared.answer.Answer.{Answer}
 use Rattle.ob_program.specs.declared.answer.Answer.TheVariants.{Ended, Usage, FileFault, FileLong, Refused, WriteFault, NoMemory}
+use Rattle.ob_program.specs.declared.line.Line.{Line}
+use Rattle.ob_program.specs.declared.line.Line.TheVariants.{Fixed, Placed}
+use Rattle.ob_program.specs.declared.refusal.Refusal.TheVariants.{Lex, Syntax, NotYet}
+use Rattle.ob_program.specs.FirstCode.{first_code, only_main}
 use Rattle.ob_program.specs.FirstForm.{FirstForm, printed, sum_value}
-use Rattle.ob_program.specs.FirstRun.{Prints}
-use Rattle.ob_program.specs.Lines.{usage_line, file_fault_line, file_long_line, refusal_line}
+use Rattle.ob_program.specs.Lines.{usage_line, file_fault_line, file_long_line, placed_line, refusal_line}
 use Rattle.ob_program.specs.Run.{most_source_bytes}
 use Rattle.ob_program.specs.Settings.{usual, usual_steps}
 use Rattle.ob_program.specs.Sources.{IsOfForm, Refuses, refusal_status}
@@ -53,13 +55,11 @@ pub record IsUntouched (o : Output) : Type 0 where
   pub tally : o.tally_now ≡ o.tally_before
   pub faults : o.faults_now ≡ o.faults_before
 
--- an image that does what the form says does so many instructions in a run
-pub record Counts (form : FirstForm) (instructions : ℕ) : Type 0 where
-  pub image : Image
-  pub prints : Prints image form
+-- the number of instructions of the whole run of a program of this form
+pub record IsCount (form : FirstForm) (instructions : ℕ) : Type 0 where
   pub input : List ℕ
   pub input_end : InputEnd
-  pub counted : instructions ≡ flat_instructions image usual (0 ∷ []) 0 input input_end usual_steps
+  pub counted : instructions ≡ flat_instructions (only_main (first_code form)) usual (0 ∷ []) 0 input input_end usual_steps
 
 -- a program of this form was run to its end with a number: all that it prints was written
 pub record RanToEnd (form : FirstForm) (number : ℤ) (instructions : ℕ) (o : Output) : Type 0 where
@@ -67,12 +67,15 @@ pub record RanToEnd (form : FirstForm) (number : ℤ) (instructions : ℕ) (o : 
   pub taken : o.taken_now ≡ append_known o.taken_before (printed form)
   pub tally : o.tally_now ≡ tally_known o.tally_before (printed form)
   pub faults : o.faults_now ≡ o.faults_before
-  pub counts : Counts form instructions
+  pub count : IsCount form instructions
 
 -- the sink failed, and has taken a prefix of what the form prints
-pub record WasCutOff (form : FirstForm) (o : Output) : Type 0 where
+pub record WasCutOff (form : FirstForm) (instructions : ℕ) (o : Output) : Type 0 where
   pub cause : Rose o.faults_before o.faults_now
   pub took : TakesPrefix o.taken_before o.taken_now o.tally_before o.tally_now (printed form)
+  pub whole : ℕ
+  pub count : IsCount form whole
+  pub within : instructions ≤ whole
 
 -- the bytes are those of no program that can be read, or there was no memory to read them
 abbrev pub Declines : List ℕ → Answer → Type 0
@@ -87,7 +90,7 @@ Declines bytes FileLong = ⊥
 -- what a program of this form came to, and how many instructions were done
 abbrev pub FormGives : FirstForm → Answer → ℕ → Output → Type 0
 FormGives form (Ended number) n o = RanToEnd form number n o
-FormGives form WriteFault n o = WasCutOff form o
+FormGives form WriteFault n o = WasCutOff form n o
 FormGives form NoMemory n o = (n ≡ 0) × IsUntouched o
 FormGives form (Refused refusal) n o = ⊥
 FormGives form Usage n o = ⊥
@@ -97,7 +100,7 @@ FormGives form FileLong n o = ⊥
 -- what the bytes of a source came to
 abbrev pub SourceGives : List ℕ → Answer → ℕ → Output → Type 0
 SourceGives bytes (Ended number) n o = (form : FirstForm) × (IsOfForm bytes form × RanToEnd form number n o)
-SourceGives bytes WriteFault n o = (form : FirstForm) × (IsOfForm bytes form × WasCutOff form o)
+SourceGives bytes WriteFault n o = (form : FirstForm) × (IsOfForm bytes form × WasCutOff form n o)
 SourceGives bytes (Refused refusal) n o = Refuses bytes refusal × (n ≡ 0) × IsUntouched o
 SourceGives bytes NoMemory n o = (n ≡ 0) × IsUntouched o
 SourceGives bytes Usage n o = ⊥
@@ -136,13 +139,35 @@ abbrev pub JobGives : Option Files → ℕ → ℕ → Option (List ℕ) → Ans
 JobGives files before now None answer n o = (answer ≡ Usage) × (now ≡ before) × (n ≡ 0) × IsUntouched o
 JobGives files before now (Some name) answer n o = NameGives files before now name answer n o
 
--- how an answer was told: its line was written and its status given; or the error sink failed; or there was no memory for the
--- line, and nothing was written
+-- an answer whose line has a place in it, and so takes memory
+abbrev pub TakesMemory : Answer → Type 0
+TakesMemory (Refused (Lex kind position)) = Unit {0}
+TakesMemory (Refused (Syntax kind position)) = Unit {0}
+TakesMemory (Refused NotYet) = ⊥
+TakesMemory (Ended number) = ⊥
+TakesMemory Usage = ⊥
+TakesMemory FileFault = ⊥
+TakesMemory FileLong = ⊥
+TakesMemory WriteFault = ⊥
+TakesMemory NoMemory = ⊥
+
+-- this is the answer's line, for a file of any name
+abbrev pub IsLineOf : Answer → Line → Type 0
+IsLineOf answer (Fixed text) = (name : List ℕ) → text.now ≡ line_of name answer
+IsLineOf answer (Placed position sort kind) =
+    ((name : List ℕ) → placed_line name position sort.now kind.now ≡ line_of name answer) × TakesMemory answer
+
+-- how a line was told with a status: it was written; or the error sink failed
+abbrev pub IsLineTold : (line : List ℕ) → (due status : ℕ) → Output → Type 0
+IsLineTold line due status e =
+    ((status ≡ due) × (e.taken_now ≡ append_known e.taken_before line) × (e.tally_now ≡ tally_known e.tally_before line) × (e.faults_now ≡ e.faults_before))
+    ⊎ ((status ≡ 143) × Rose e.faults_before e.faults_now × TakesPrefix e.taken_before e.taken_now e.tally_before e.tally_now line)
+
+-- how an answer was told: its line was, with its status; or there was no memory for a line with a place, and nothing was written
 abbrev pub IsTold : (name : List ℕ) → Answer → ℕ → Output → Type 0
 IsTold name answer status e =
-    ((status ≡ status_of answer) × (e.taken_now ≡ append_known e.taken_before (line_of name answer)) × (e.tally_now ≡ tally_known e.tally_before (line_of name answer)) × (e.faults_now ≡ e.faults_before))
-    ⊎ ((status ≡ 143) × Rose e.faults_before e.faults_now × TakesPrefix e.taken_before e.taken_now e.tally_before e.tally_now (line_of name answer))
-    ⊎ ((status ≡ 144) × (e.taken_now ≡ e.taken_before) × (e.tally_now ≡ e.tally_before) × (e.faults_now ≡ e.faults_before))
+    IsLineTold (line_of name answer) (status_of answer) status e
+    ⊎ (TakesMemory answer × (status ≡ 144) × (e.taken_now ≡ e.taken_before) × (e.tally_now ≡ e.tally_before) × (e.faults_now ≡ e.faults_before))
 
 -- what came of a job: the answer, and how it was told
 pub record Runs (files : Option Files) (before now : ℕ) (job : Option (List ℕ)) (status n : ℕ) (o e : Output) : Type 0 where

@@ -2,6 +2,7 @@ pub mod Status
 pub mod Settings
 pub mod Job
 pub mod FirstForm
+pub mod FirstCode
 pub mod FirstRun
 pub mod Sources
 pub mod Lines

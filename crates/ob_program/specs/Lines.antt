@@ -6,7 +6,7 @@ use Rattle.ob_tree.specs.declared.faults.SyntaxKind.{SyntaxKind}
 use Rattle.ob_tree.specs.declared.faults.SyntaxKind.TheVariants as syntax
 use Rattle.ob_program.specs.declared.refusal.Refusal.{Refusal}
 use Rattle.ob_program.specs.declared.refusal.Refusal.TheVariants.{Lex, Syntax, NotYet}
-use Rattle.ob_program.specs.declared.refusal.Spot.{Spot}
+use Rattle.ob_program.specs.declared.refusal.Position.{Position}
 
 -- the line for words that ask for nothing
 abbrev pub usage_line : List ℕ
@@ -42,12 +42,12 @@ syntax_name syntax.NoTree = codes "NoTree"
 syntax_name syntax.TooDeep = codes "TooDeep"
 
 -- `NAME:LINE:COLUMN: SORT KIND`: a fault at a place of the file of that name
-abbrev pub fault_line : (name : List ℕ) → Spot → (sort kind : List ℕ) → List ℕ
-fault_line name spot sort kind =
-    name ++ (codes ":" ++ (decimal spot.line ++ (codes ":" ++ (decimal spot.column ++ (codes ": " ++ (sort ++ (codes " " ++ (kind ++ codes "\n"))))))))
+abbrev pub placed_line : (name : List ℕ) → Position → (sort kind : List ℕ) → List ℕ
+placed_line name position sort kind =
+    name ++ (codes ":" ++ (decimal position.line ++ (codes ":" ++ (decimal position.column ++ (codes ": " ++ (sort ++ (codes " " ++ (kind ++ codes "\n"))))))))
 
 -- the line for a source that isn't run, by the name of its file
 abbrev pub refusal_line : List ℕ → Refusal → List ℕ
-refusal_line name (Lex kind spot) = fault_line name spot (codes "lex") (lex_name kind)
-refusal_line name (Syntax kind spot) = fault_line name spot (codes "syntax") (syntax_name kind)
+refusal_line name (Lex kind position) = placed_line name position (codes "lex") (lex_name kind)
+refusal_line name (Syntax kind position) = placed_line name position (codes "syntax") (syntax_name kind)
 refusal_line name NotYet = not_yet_line

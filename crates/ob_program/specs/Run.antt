@@ -1,9 +1,9 @@
 -- When each answer of the program comes, by its words and by what its devices tell.
-use Rattle.std.specs.Prelude.{◌≡◌, ℕ, ◌<◌, ◌≤◌, ◌⊎◌, List, [], length, ⊤, Option, Some, None, IsSomeAnd, unwrap_or}
+use Rattle.std.specs.Prelude.{◌≡◌, ◌≢◌, ℕ, ◌<◌, ◌≤◌, ◌⊎◌, List, [], length, ⊤, Option, Some, None, IsSomeAnd, unwrap_or}
 use Rattle.std.specs.FinMap.{get}
 use Rattle.std.specs.Io.KnownBytes.{append_known}
 use Rattle.ob_base.specs.Faults.{NoFault}
-use Rattle.ob_base.specs.Sink.{Tally, TakesPrefix}
+use Rattle.ob_base.specs.Sink.{Tally, TakesPrefix, tally_known}
 use Rattle.ob_base.specs.Folder.{Files, IsMissing}
 use Rattle.ob_words.specs.Conversion.{residue}
 use Rattle.ob_program.specs.declared.refusal.Refusal.{Refusal}
@@ -55,11 +55,12 @@ abbrev pub NamesNone : List (List ℕ) → Option Files → Type 0
 NamesNone words files = IsSomeAnd (job_of words) (IsMissing files)
 
 -- a source ended with this status, after all that it prints was written
-pub record Ran (words : List (List ℕ)) (files : Option Files) (status : ℕ) (taken_before taken_now : Option (List ℕ)) : Type 0 where
+pub record Ran (words : List (List ℕ)) (files : Option Files) (status : ℕ) (taken_before taken_now : Option (List ℕ)) (tally_before tally_now : Option Tally) : Type 0 where
   pub source : FirstForm
   pub is_source : IsSource words files source
   pub status_is : status ≡ residue 128 (sum_value source.result)
   pub written : taken_now ≡ append_known taken_before (printed source)
+  pub tallied : tally_now ≡ tally_known tally_before (printed source)
 
 -- the file was refused for this, and the error sink has taken the line that says so
 pub record IsDiagnosed (words : List (List ℕ)) (files : Option Files) (refusal : Refusal) (taken_before taken_now : Option (List ℕ)) : Type 0 where
@@ -85,6 +86,7 @@ pub record TellsPlace (words : List (List ℕ)) (status : ℕ) (taken_before tak
 -- the line of the answer where there was no run, of nothing where there was one
 pub record TakesPrefixOfLine (words : List (List ℕ)) (files : Option Files) (folder_before folder_now : ℕ) (taken_before taken_now : Option (List ℕ)) (tally_before tally_now : Option Tally) : Type 0 where
   pub usage : job_of words ≡ None → TakesPrefix taken_before taken_now tally_before tally_now usage_line
+  pub failed : folder_now ≢ folder_before → TakesPrefix taken_before taken_now tally_before tally_now file_fault_line
   pub missing : NamesNone words files → TakesPrefix taken_before taken_now tally_before tally_now file_fault_line
   pub long : IsLong words files → NoFault folder_before folder_now → TakesPrefix taken_before taken_now tally_before tally_now file_long_line
   pub refused : (refusal : Refusal) → IsRefused words files refusal → NoFault folder_before folder_now → TakesPrefix taken_before taken_now tally_before tally_now (refusal_line (file_name words) refusal)

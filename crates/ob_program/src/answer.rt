@@ -1,10 +1,9 @@
-ghost use Rattle.std.specs.Prelude.{◌≡◌, IfOk, string_bytes};
-ghost use Rattle.ob_program.specs.Answer.{line_of, status_of};
+ghost use Rattle.std.specs.Prelude.{◌≡◌};
+ghost use Rattle.ob_program.specs.Answer.{IsLineOf, status_of};
 ghost use Rattle.ob_words.specs.Conversion.{residue};
 
+use crate::line::{Line, lex_name, syntax_name};
 use crate::refusal::Refusal;
-use ob_base::NoMemory;
-use std::alloc::Global;
 
 /// What the words came to, before the error sink was told.
 #[derive(Clone, Copy, Debug, PartialEq, Eq)]
@@ -34,21 +33,26 @@ impl Answer {
         }
     }
 
-    /// The line that the error sink gets, by the name of the file; none for a run that ended, a failed
-    /// write and want of memory.
-    pub(crate) fn line(self, alloc: Global, name: &str) -> Result<String, NoMemory>
-        ensures { IfOk result (λ line. string_bytes line ≡ line_of name.now self) }
+    /// The line that the error sink gets; an empty one for a run that ended, a failed write and want of
+    /// memory.
+    pub(crate) fn line(self) -> Line
+        ensures { IsLineOf self result }
     {
-        Ok(match self {
-            Answer::Usage => String::from_str(
-                alloc,
+        match self {
+            Answer::Usage => Line::Fixed(
                 "usage: oblivious run|compile|exec|check|audit|sample ARGUMENT [OPTIONS]\n",
-            )?,
-            Answer::FileFault => String::from_str(alloc, "oblivious: FileFault\n")?,
-            Answer::FileLong => String::from_str(alloc, "oblivious: FileLong\n")?,
-            Answer::Refused(refusal) => refusal.line(alloc, name)?,
-            Answer::Ended(_) | Answer::WriteFault | Answer::NoMemory => String::new(alloc),
-        })
+            ),
+            Answer::FileFault => Line::Fixed("oblivious: FileFault\n"),
+            Answer::FileLong => Line::Fixed("oblivious: FileLong\n"),
+            Answer::Refused(Refusal::Lex(kind, position)) => {
+                Line::Placed(position, "lex", lex_name(kind))
+            }
+            Answer::Refused(Refusal::Syntax(kind, position)) => {
+                Line::Placed(position, "syntax", syntax_name(kind))
+            }
+            Answer::Refused(Refusal::NotYet) => Line::Fixed("oblivious: NotYet\n"),
+            Answer::Ended(_) | Answer::WriteFault | Answer::NoMemory => Line::Fixed(""),
+        }
     }
 }
 

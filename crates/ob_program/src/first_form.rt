@@ -1,6 +1,7 @@
-ghost use Rattle.std.specs.Prelude.{◌≤◌, ◌^◌, length, IfOk, MatchOption};
+ghost use Rattle.std.specs.Prelude.{◌≡◌, ◌≤◌, ◌^◌, length, IfOk, MatchOption};
 ghost use Rattle.ob_tree.specs.ProgramSpelling.{spell_program};
 ghost use Rattle.ob_tree.specs.ProgramView.{program_tree};
+ghost use Rattle.ob_program.specs.FirstCode.{first_code, only_main};
 ghost use Rattle.ob_program.specs.FirstForm.{FirstForm, HasFirstForm};
 ghost use Rattle.ob_program.specs.FirstRun.{Prints};
 
@@ -14,7 +15,7 @@ pub(crate) fn first_image(alloc: Global, program: &Program) -> Result<Option<Ver
     requires { length (spell_program (program_tree program.now)) ≤ 2 ^ 20 }
     ensures { IfOk result (λ o. MatchOption o
         ((f : FirstForm) → ¬ HasFirstForm (program_tree program.now) f)
-        (λ v. (f : FirstForm) × HasFirstForm (program_tree program.now) f × Prints v f)) }
+        (λ v. (f : FirstForm) × HasFirstForm (program_tree program.now) f × (v ≡ only_main (first_code f)) × Prints v f)) }
 {
     let _unread = program;
     let _unused = alloc;

@@ -2,12 +2,13 @@ ghost use Rattle.std.specs.Prelude.{◌≡◌, ◌≤◌, ◌^◌, length, IfOk,
 ghost use Rattle.std.specs.Option.{option_copied};
 ghost use Rattle.ob_tree.specs.ProgramSpelling.{spell_program};
 ghost use Rattle.ob_tree.specs.ProgramView.{program_tree};
-ghost use Rattle.ob_lexer.specs.Texts.{HasLexFault, Spells};
+ghost use Rattle.ob_lexer.specs.Texts.{HasLexFault, Spells, StopsAt};
+ghost use Rattle.ob_parser.specs.Answer.{IsAnswer, ParsedProgram};
 ghost use Rattle.ob_program.specs.Answer.{Declines};
-ghost use Rattle.ob_program.specs.Sources.{IsTextOf, SyntaxFails, spot_behind, spot_of};
+ghost use Rattle.ob_program.specs.Sources.{IsTextOf, fault_answer, position_behind, position_of};
 
 use crate::answer::Answer;
-use crate::refusal::{Refusal, Spot};
+use crate::refusal::{Refusal, Position};
 use ob_lexer::lex;
 use ob_parser::parse;
 use ob_tree::{LexFault, LexKind, Program, SyntaxFault, SyntaxKind, Token};
@@ -36,60 +37,73 @@ fn lex_answer(bytes: &[u8], fault: LexFault) -> Answer
     requires fault { HasLexFault bytes.now fault }
     ensures { Declines bytes.now result }
 {
-    let (kind, at) = match fault {
-        LexFault::Stray(at) => (LexKind::Stray, at),
-        LexFault::Unclosed(at) => (LexKind::Unclosed, at),
-        LexFault::Wide(at) => (LexKind::Wide, at),
-        LexFault::NoMemory => return Answer::NoMemory,
-    };
-    Answer::Refused(Refusal::Lex(kind, spot_behind(&bytes[..at as usize])))
+    match fault {
+        LexFault::Stray(at) => lex_refusal(bytes, LexKind::Stray, at),
+        LexFault::Unclosed(at) => lex_refusal(bytes, LexKind::Unclosed, at),
+        LexFault::Wide(at) => lex_refusal(bytes, LexKind::Wide, at),
+        LexFault::NoMemory => Answer::NoMemory,
+    }
+}
+
+fn lex_refusal(bytes: &[u8], kind: LexKind, at: u32) -> Answer
+    requires short { length bytes.now ≤ 2 ^ 20 }
+    requires stops { StopsAt bytes.now kind at }
+    ensures { Declines bytes.now result }
+{
+    Answer::Refused(Refusal::Lex(kind, position_behind(&bytes[..at as usize])))
 }
 
 /// The answer to a text whose tokens are no program.
 fn syntax_answer(bytes: &[u8], tokens: &[Token], fault: SyntaxFault) -> Answer
     requires short { length bytes.now ≤ 2 ^ 20 }
     requires spelled { Spells tokens.now bytes.now }
-    requires fault { SyntaxFails tokens.now fault }
+    requires fault { ParsedProgram tokens.now (Err fault) }
     ensures { Declines bytes.now result }
 {
-    let (kind, at) = match fault {
-        SyntaxFault::NoTree(at) => (SyntaxKind::NoTree, at),
-        SyntaxFault::TooDeep(at) => (SyntaxKind::TooDeep, at),
-        SyntaxFault::NoMemory => return Answer::NoMemory,
-    };
-    Answer::Refused(Refusal::Syntax(
-        kind,
-        spot_of(bytes, tokens.get(at as usize)),
-    ))
+    match fault {
+        SyntaxFault::NoTree(at) => syntax_refusal(bytes, tokens, SyntaxKind::NoTree, at),
+        SyntaxFault::TooDeep(at) => syntax_refusal(bytes, tokens, SyntaxKind::TooDeep, at),
+        SyntaxFault::NoMemory => Answer::NoMemory,
+    }
+}
+
+fn syntax_refusal(bytes: &[u8], tokens: &[Token], kind: SyntaxKind, at: u32) -> Answer
+    requires short { length bytes.now ≤ 2 ^ 20 }
+    requires spelled { Spells tokens.now bytes.now }
+    requires fault { IsAnswer tokens.now (fault_answer kind at) }
+    ensures { Declines bytes.now result }
+{
+    let position = position_of(bytes, tokens.get(at as usize));
+    Answer::Refused(Refusal::Syntax(kind, position))
 }
 
 /// The place of a token of a text; where there is none, the place behind the text.
-fn spot_of(text: &[u8], token: Option<&Token>) -> Spot
+fn position_of(text: &[u8], token: Option<&Token>) -> Position
     requires { length text.now ≤ 2 ^ 20 }
-    ensures { result ≡ spot_of text.now (option_copied token.entry) }
+    ensures { result ≡ position_of text.now (option_copied token.entry) }
 {
     match token {
-        Some(token) => Spot {
+        Some(token) => Position {
             line: token.span.line,
             column: token.span.column,
         },
-        None => spot_behind(text),
+        None => position_behind(text),
     }
 }
 
 /// The place behind these bytes.
-fn spot_behind(before: &[u8]) -> Spot
+fn position_behind(before: &[u8]) -> Position
     requires { length before.now ≤ 2 ^ 20 }
-    ensures { result ≡ spot_behind before.now }
+    ensures { result ≡ position_behind before.now }
 {
-    let mut spot = Spot { line: 1, column: 1 };
+    let mut position = Position { line: 1, column: 1 };
     for byte in before {
         if *byte == b'\n' {
-            spot.line += 1;
-            spot.column = 1;
+            position.line += 1;
+            position.column = 1;
         } else {
-            spot.column += 1;
+            position.column += 1;
         }
     }
-    spot
+    position
 }

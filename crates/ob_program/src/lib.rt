@@ -17,6 +17,7 @@ mod first_form;
 mod front;
 mod job;
 mod laws;
+mod line;
 mod program;
 mod refusal;
 mod settings;

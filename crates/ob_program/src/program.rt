@@ -7,8 +7,8 @@ ghost use Rattle.ob_words.specs.Conversion.{residue};
 ghost use Rattle.ob_tree.specs.declared.faults.LexKind.{LexKind};
 ghost use Rattle.ob_tree.specs.declared.faults.SyntaxKind.TheVariants.{NoTree, TooDeep};
 ghost use Rattle.ob_program.specs.declared.refusal.Refusal.TheVariants.{Lex, Syntax, NotYet};
-ghost use Rattle.ob_program.specs.declared.refusal.Spot.{Spot};
-ghost use Rattle.ob_program.specs.Answer.{IsTold, Runs};
+ghost use Rattle.ob_program.specs.declared.refusal.Position.{Position};
+ghost use Rattle.ob_program.specs.Answer.{IsLineTold, IsTold, Runs, status_of};
 ghost use Rattle.ob_program.specs.ExecAnswer.{Execs};
 ghost use Rattle.ob_program.specs.ExecJob.{exec_steps, image_name};
 ghost use Rattle.ob_program.specs.FirstForm.{FirstForm, printed, sum_value};
@@ -20,9 +20,10 @@ use crate::answer::Answer;
 use crate::exec::exec;
 use crate::exec_job::exec_steps;
 use crate::job::job;
+use crate::line::{Line, placed_line};
 use crate::source::{Came, answer};
 use crate::status::Status;
-use ob_base::{Folder, Sink, Source, write_all};
+use ob_base::{Folder, NoMemory, Sink, Source, write_all};
 use std::alloc::Global;
 
 /// Does what the words ask for. `run FILE` loads the file from `folder`, compiles it and runs it on
@@ -64,7 +65,7 @@ pub fn top<F: Folder, S: Source, K: Sink, E: Sink>(
         (result.code ≡ residue 128 (sum_value form.result)) × (K.taken out.new ≡ append_known (K.taken out.old) (printed form)) × (K.tally out.new ≡ tally_known (K.tally out.old) (printed form)) }
 
     // A status below 128 comes of no other run.
-    ensures ran { exec_steps (map string_bytes words.items) ≡ None → result.code < 128 → TellsFiles (F.files folder.old) → Ran (map string_bytes words.items) (F.files folder.old) result.code (K.taken out.old) (K.taken out.new) }
+    ensures ran { exec_steps (map string_bytes words.items) ≡ None → result.code < 128 → TellsFiles (F.files folder.old) → Ran (map string_bytes words.items) (F.files folder.old) result.code (K.taken out.old) (K.taken out.new) (K.tally out.old) (K.tally out.new) }
 
     // When each refusal comes.
     ensures usage_only { exec_steps (map string_bytes words.items) ≡ None → result.code ≡ 128 → job_of (map string_bytes words.items) ≡ None }
@@ -72,12 +73,12 @@ pub fn top<F: Folder, S: Source, K: Sink, E: Sink>(
     ensures file_fault { exec_steps (map string_bytes words.items) ≡ None → result.code ≡ 129 → Rose (F.faults folder.old) (F.faults folder.new) ⊎ NamesNone (map string_bytes words.items) (F.files folder.old) }
     ensures file_long_only { exec_steps (map string_bytes words.items) ≡ None → result.code ≡ 130 → TellsFiles (F.files folder.old) → IsLong (map string_bytes words.items) (F.files folder.old) }
     ensures file_long_when { exec_steps (map string_bytes words.items) ≡ None → IsLong (map string_bytes words.items) (F.files folder.old) → NoFault (F.faults folder.old) (F.faults folder.new) → (result.code ≡ 130) ⊎ GivesWay result.code }
-    ensures lex_only { exec_steps (map string_bytes words.items) ≡ None → result.code ≡ 131 → TellsFiles (F.files folder.old) → (kind : LexKind) × (spot : Spot) × IsDiagnosed (map string_bytes words.items) (F.files folder.old) (Lex kind spot) (E.taken err.old) (E.taken err.new) }
-    ensures lex_when { exec_steps (map string_bytes words.items) ≡ None → (kind : LexKind) (spot : Spot) → IsRefused (map string_bytes words.items) (F.files folder.old) (Lex kind spot) → NoFault (F.faults folder.old) (F.faults folder.new) → (result.code ≡ 131) ⊎ GivesWay result.code }
-    ensures syntax_only { exec_steps (map string_bytes words.items) ≡ None → result.code ≡ 132 → TellsFiles (F.files folder.old) → (spot : Spot) × IsDiagnosed (map string_bytes words.items) (F.files folder.old) (Syntax NoTree spot) (E.taken err.old) (E.taken err.new) }
-    ensures syntax_when { exec_steps (map string_bytes words.items) ≡ None → (spot : Spot) → IsRefused (map string_bytes words.items) (F.files folder.old) (Syntax NoTree spot) → NoFault (F.faults folder.old) (F.faults folder.new) → (result.code ≡ 132) ⊎ GivesWay result.code }
-    ensures deep_only { exec_steps (map string_bytes words.items) ≡ None → result.code ≡ 134 → TellsFiles (F.files folder.old) → (spot : Spot) × IsDiagnosed (map string_bytes words.items) (F.files folder.old) (Syntax TooDeep spot) (E.taken err.old) (E.taken err.new) }
-    ensures deep_when { exec_steps (map string_bytes words.items) ≡ None → (spot : Spot) → IsRefused (map string_bytes words.items) (F.files folder.old) (Syntax TooDeep spot) → NoFault (F.faults folder.old) (F.faults folder.new) → (result.code ≡ 134) ⊎ GivesWay result.code }
+    ensures lex_only { exec_steps (map string_bytes words.items) ≡ None → result.code ≡ 131 → TellsFiles (F.files folder.old) → (kind : LexKind) × (position : Position) × IsDiagnosed (map string_bytes words.items) (F.files folder.old) (Lex kind position) (E.taken err.old) (E.taken err.new) }
+    ensures lex_when { exec_steps (map string_bytes words.items) ≡ None → (kind : LexKind) (position : Position) → IsRefused (map string_bytes words.items) (F.files folder.old) (Lex kind position) → NoFault (F.faults folder.old) (F.faults folder.new) → (result.code ≡ 131) ⊎ GivesWay result.code }
+    ensures syntax_only { exec_steps (map string_bytes words.items) ≡ None → result.code ≡ 132 → TellsFiles (F.files folder.old) → (position : Position) × IsDiagnosed (map string_bytes words.items) (F.files folder.old) (Syntax NoTree position) (E.taken err.old) (E.taken err.new) }
+    ensures syntax_when { exec_steps (map string_bytes words.items) ≡ None → (position : Position) → IsRefused (map string_bytes words.items) (F.files folder.old) (Syntax NoTree position) → NoFault (F.faults folder.old) (F.faults folder.new) → (result.code ≡ 132) ⊎ GivesWay result.code }
+    ensures deep_only { exec_steps (map string_bytes words.items) ≡ None → result.code ≡ 134 → TellsFiles (F.files folder.old) → (position : Position) × IsDiagnosed (map string_bytes words.items) (F.files folder.old) (Syntax TooDeep position) (E.taken err.old) (E.taken err.new) }
+    ensures deep_when { exec_steps (map string_bytes words.items) ≡ None → (position : Position) → IsRefused (map string_bytes words.items) (F.files folder.old) (Syntax TooDeep position) → NoFault (F.faults folder.old) (F.faults folder.new) → (result.code ≡ 134) ⊎ GivesWay result.code }
     ensures not_yet_only { exec_steps (map string_bytes words.items) ≡ None → result.code ≡ 145 → TellsFiles (F.files folder.old) → IsRefused (map string_bytes words.items) (F.files folder.old) NotYet }
     ensures not_yet_when { exec_steps (map string_bytes words.items) ≡ None → IsRefused (map string_bytes words.items) (F.files folder.old) NotYet → NoFault (F.faults folder.old) (F.faults folder.new) → (result.code ≡ 145) ⊎ GivesWay result.code }
     ensures write_fault { exec_steps (map string_bytes words.items) ≡ None → result.code ≡ 143 → Rose (K.faults out.old) (K.faults out.new) ⊎ Rose (E.faults err.old) (E.faults err.new) }
@@ -138,9 +139,21 @@ fn tell<E: Sink>(alloc: Global, name: &str, came: Came, err: &mut E) -> Status
         (record { taken_before = E.taken err.old; taken_now = E.taken err.new; tally_before = E.tally err.old; tally_now = E.tally err.new; faults_before = E.faults err.old; faults_now = E.faults err.new }) }
     ensures instructions { result.instructions ≡ came.instructions }
 {
-    let Ok(line) = came.answer.line(alloc, name) else {
-        return Status::new(Answer::NoMemory.status(), came.instructions);
-    };
+    match came.answer.line() {
+        Line::Fixed(line) => tell_line(line, came, err),
+        Line::Placed(position, sort, kind) => match placed_line(alloc, name, position, sort, kind) {
+            Ok(line) => tell_line(&line, came, err),
+            Err(NoMemory) => Status::new(Answer::NoMemory.status(), came.instructions),
+        },
+    }
+}
+
+/// Writes a line to the error sink, and gives the answer's status, or that of a failed write.
+fn tell_line<E: Sink>(line: &str, came: Came, err: &mut E) -> Status
+    ensures told { IsLineTold line.now (status_of came.answer) result.code
+        (record { taken_before = E.taken err.old; taken_now = E.taken err.new; tally_before = E.tally err.old; tally_now = E.tally err.new; faults_before = E.faults err.old; faults_now = E.faults err.new }) }
+    ensures instructions { result.instructions ≡ came.instructions }
+{
     if write_all(err, line.as_bytes()).is_err() {
         return Status::new(Answer::WriteFault.status(), came.instructions);
     }
