@@ -14,8 +14,8 @@ use Rattle.ob_machine.specs.Devices.{AreTold, Reading, Writing, IsWritten}
 use Rattle.ob_machine.specs.Exchanges.{CanFollow, Devices, KnowsEnd, RunEnds, RunFailsToRead, RunFailsToWrite, having_written, reading}
 use Rattle.ob_machine.specs.Executions.{Beside, state_of}
 use Rattle.ob_machine.specs.Finished.{Broken, ComesOut, Ended, at_start}
-use Rattle.ob_machine.specs.Output.{SentOrPending}
-use Rattle.ob_machine.proofs.Interpreted.{flush_prefix, sent_prefix}
+use Rattle.ob_machine.specs.Buffers.{SentOrPending}
+use Rattle.ob_machine.proofs.Sent.{flush_prefix, sent_prefix}
 
 -- what a source still has, where it tells it
 abbrev rest_of : Option (List ℕ) → List ℕ

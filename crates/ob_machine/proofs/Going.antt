@@ -22,9 +22,9 @@ use Rattle.ob_machine.specs.Buffers.{Unread}
 use Rattle.ob_machine.specs.Effects.{IsReady}
 use Rattle.ob_machine.specs.Exchanges.{Advances, Answers, CanFollow, Devices, FailsToRead, FailsToWrite, KnowsEnd, Moves, RunAnswers, RunEnds, RunFailsToRead, RunFailsToWrite, begun, having_written, reading}
 use Rattle.ob_machine.specs.Executions.{Beside, Is, SameRows, setup, state_of}
-use Rattle.ob_machine.specs.Output.{SentOrPending}
+use Rattle.ob_machine.specs.Buffers.{SentOrPending}
 use Rattle.ob_machine.proofs.Exchanged.{nothing_written, still}
-use Rattle.ob_machine.proofs.Interpreted.{flush_prefix, sent_then}
+use Rattle.ob_machine.proofs.Sent.{flush_prefix, sent_then}
 use Rattle.ob_machine.proofs.Reached.{step_placed}
 use Rattle.ob_machine.proofs.WholeRuns.{runs_count, runs_follow}
 use Rattle.ob_machine.proofs.Stepped.{does}

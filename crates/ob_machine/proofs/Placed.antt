@@ -304,7 +304,7 @@ module _ (u : Setup) (v : IsVerified u.image) (s : State) (placed : IsPlaced u.i
   act_on (instr.Move a b) is = goes_on (instr.Move a b) is (λ x. x) _ refl refl (omega arith)
   act_on (instr.Convert kind a b) is = goes_on (instr.Convert kind a b) is (λ x. x) _ refl refl (omega arith)
   act_on (instr.Binary kind operator a b c) is =
-      set_result u.image (binary operator kind (machine.get_number kind s b) (machine.right_number operator kind s c)) a s
+      set_result u.image (binary operator kind (machine.get_number kind s b) (machine.right_number operator kind (machine.get s c))) a s
       (λ w. goes_on (instr.Binary kind operator a b c) is (λ x. x) _ refl refl (omega arith))
   act_on (instr.Compare kind relation a b c) is = goes_on (instr.Compare kind relation a b c) is (λ x. x) _ refl refl (omega arith)
   act_on (instr.Jump imm) is = goes_to imm (λ f here. (sound_there u.image f s.counter (instr.Jump imm) v here is).0)
