@@ -2,8 +2,9 @@ pub mod Status
 pub mod Settings
 pub mod Job
 pub mod FirstForm
-pub mod FirstCode
 pub mod FirstRun
+pub mod FirstCode
+pub mod FirstReading
 pub mod Sources
 pub mod Lines
 pub mod Run
