@@ -1,4 +1,1 @@
-pub mod Files
-pub mod Clauses
-pub mod Promises
-pub mod Numbers
+
