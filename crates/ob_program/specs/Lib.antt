@@ -1,2 +1,4 @@
 pub mod FirstForm
 pub mod FirstRun
+pub mod FirstCode
+pub mod FirstReading
