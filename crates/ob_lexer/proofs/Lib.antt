@@ -15,4 +15,6 @@ pub mod ConstantBounds
 pub mod NumberPieces
 pub mod QuotePieces
 pub mod Scanning
+pub mod SourceTokens
+pub mod SomeReading
 pub mod PlaceLemmas
