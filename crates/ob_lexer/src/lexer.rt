@@ -52,7 +52,8 @@ pub fn law_one_reading()
     ensures one_fault { (text : List ℕ) (k l : LexKind) (i j : ℕ) → StopsAt text k i → StopsAt text l j → (k ≡ l) × (i ≡ j) }
 {}
 
-/// The law that a text has a reading: tokens spell it, or it has a fault.
+/// The law that each text has a reading: tokens spell it, or a run of its longest pieces stops at a
+/// fault.
 pub fn law_some_reading()
     ensures { (text : List ℕ) → ((ts : List Token) × Spells ts text) ⊎ ((kind : LexKind) × (at : ℕ) × StopsAt text kind at) }
 {}
