@@ -3,9 +3,10 @@ use Rattle.std.proofs.Common.{◌≡◌, ℕ, ◌^◌, ◌≤◌, ◌⊎◌, inl
 use Rattle.std.specs.Prelude.{slice_get}
 use Rattle.ob_tree.specs.Programs.{ProgramTree}
 use Rattle.ob_tree.specs.declared.tokens.Token.{Token}
+use Rattle.ob_tree.specs.declared.faults.LexKind.{LexKind}
 use Rattle.ob_tree.specs.declared.faults.SyntaxKind.TheVariants as syntax
-use Rattle.ob_lexer.specs.Texts.{Spells}
-use Rattle.ob_lexer.proofs.SomeReading.{Reading, some-reading}
+use Rattle.ob_lexer.specs.Texts.{Spells, StopsAt}
+use Rattle.ob_lexer.proofs.SomeReading.{some-reading}
 use Rattle.ob_lexer.proofs.SourceTokens.{spells-of-source}
 use Rattle.ob_parser.specs.Answer.{Answer, IsAnswer}
 use Rattle.ob_parser.proofs.OneAnswer.{some-answer}
@@ -30,6 +31,6 @@ some_outcome text short = by (some-reading text)
     on ts s (Answer.TooDeep i) h =
         (Outcome.Refused (Syntax syntax.TooDeep (position_of text (slice_get ts i))), record { tokens = ts; at = i; parses = record { spelled = s; answered = h }; position_is = refl })
 
-    by : Reading text → (outcome : Outcome) × ComesTo text outcome
+    by : ((ts : List Token) × Spells ts text) ⊎ ((kind : LexKind) × (at : ℕ) × StopsAt text kind at) → (outcome : Outcome) × ComesTo text outcome
     by (inl s) = let answer = some-answer s.0 (spells-of-source text s.0 short s.1) in on s.0 s.1 answer.0 answer.1
     by (inr s) = (Outcome.Refused (Lex s.0 (position_behind (take s.1 text))), record { at = s.1; stops = s.2; position_is = refl })
