@@ -1,5 +1,5 @@
 -- A text comes to at most one outcome.
-use Rattle.std.proofs.Common.{◌≡◌, ℕ, ⊥, List, take, refl, sym, ap, ◌∙◌, subst}
+use Rattle.std.proofs.Common.{◌≡◌, ℕ, List, take, refl, sym, ap, ◌∙◌, subst}
 use Rattle.std.specs.Prelude.{slice_get}
 use Rattle.ob_tree.specs.Programs.{ProgramTree}
 use Rattle.ob_tree.specs.declared.tokens.Token.{Token}

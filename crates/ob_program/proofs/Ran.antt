@@ -11,7 +11,7 @@ use Rattle.ob_code.specs.Start.{flat_final, flat_instructions}
 use Rattle.ob_code.specs.State.{Final}
 use Rattle.ob_machine.specs.Devices.{Reading, Writing}
 use Rattle.ob_machine.specs.Machines.{ComesTo, MachineState, Runs, loaded}
-use Rattle.ob_program.specs.Answer.{IsCount, Output, RanToEnd, WasCutOff}
+use Rattle.ob_program.specs.Answer.{FormGives, Output, RanToEnd, WasCutOff, ending_answer}
 use Rattle.ob_program.specs.FirstCode.{first_code, only_main}
 use Rattle.ob_program.specs.FirstForm.{FirstForm, sum_value}
 use Rattle.ob_program.specs.FirstRun.{Prints, RunsAs}
@@ -25,7 +25,7 @@ output_of w =
     record { taken_before = w.taken_before; taken_now = w.taken_now; tally_before = w.tally_before; tally_now = w.tally_now; faults_before = w.faults_before; faults_now = w.faults_now }
 
 -- it ended with its number, or a write failed
-abbrev pub CameOut : FirstForm → Ending → ℕ → Writing → Type 0
+abbrev CameOut : FirstForm → Ending → ℕ → Writing → Type 0
 CameOut form e n w =
     ((e ≡ ending.Ended (sum_value form.result)) × RanToEnd form (sum_value form.result) n (output_of w))
     ⊎ ((e ≡ ending.WriteFault) × WasCutOff form n (output_of w))
@@ -49,7 +49,13 @@ came_out form image after e w input input_end is does (inr cut) =
       within = cut.instructions;
     })
 
-pub ran : (form : FirstForm) (image : Image) (after : MachineState) (e : Ending) (r : Reading) (w : Writing) → image ≡ only_main (first_code form) → Prints image form → length form.prints < usual_steps → Runs (loaded image usual) after usual_steps e r w → CameOut form e after.instructions w
-ran form image after e r w is prints few runs =
-    let on = runs (0 ∷ []) 0 (omega arith) in
-    came_out form image after e w on.input on.input_end is (prints usual (0 ∷ []) 0 on.input on.input_end usual_steps usual_is_fit few) on.comes_to
+-- so with the answer to the ending
+form_gives : (form : FirstForm) (e : Ending) (n : ℕ) (w : Writing) → CameOut form e n w → FormGives form (ending_answer e) n (output_of w)
+form_gives form e n w (inl ended) = subst (λ x. FormGives form (ending_answer x) n (output_of w)) (sym ended.0) ended.1
+form_gives form e n w (inr cut) = subst (λ x. FormGives form (ending_answer x) n (output_of w)) (sym cut.0) cut.1
+
+pub ran : (form : FirstForm) (image : Image) (m after : MachineState) (e : Ending) (r : Reading) (w : Writing) → image ≡ only_main (first_code form) → Prints image form → length form.prints < usual_steps → m ≡ loaded image usual → Runs m after usual_steps e r w → FormGives form (ending_answer e) after.instructions (output_of w)
+ran form image m after e r w is prints few fresh runs =
+    let on = (subst (λ x. Runs x after usual_steps e r w) fresh runs) (0 ∷ []) 0 (omega arith) in
+    let does = prints usual (0 ∷ []) 0 on.input on.input_end usual_steps usual_is_fit few in
+    form_gives form e after.instructions w (came_out form image after e w on.input on.input_end is does on.comes_to)

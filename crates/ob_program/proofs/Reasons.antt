@@ -105,14 +105,14 @@ IsNoRun WriteFault = ⊥
 IsNoRun _ = Unit {0}
 
 pub untouched_of : (words : List (List ℕ)) (files : Option Files) (before now : ℕ) (n : ℕ) (o : Output) (a : Answer) → Ways words files before now a n o → IsNoRun a → (n ≡ 0) × IsUntouched o
-untouched_of words files before now n o a (inl none) no = (none.count, none.untouched)
-untouched_of words files before now n o (Ended number) (inr came) no = absurd no
-untouched_of words files before now n o Usage (inr came) no = absurd came.gives
-untouched_of words files before now n o FileFault (inr came) no = (came.gives.1, came.gives.2)
-untouched_of words files before now n o FileLong (inr came) no = (came.gives.2, came.gives.3)
-untouched_of words files before now n o (Refused r) (inr came) no = (came.gives.1.give.1, came.gives.1.give.2)
-untouched_of words files before now n o WriteFault (inr came) no = absurd no
-untouched_of words files before now n o NoMemory (inr came) no = (came.gives.1, came.gives.2)
+untouched_of words files before now n o a (inl none) idle = (none.count, none.untouched)
+untouched_of words files before now n o (Ended number) (inr came) idle = absurd idle
+untouched_of words files before now n o Usage (inr came) idle = absurd came.gives
+untouched_of words files before now n o FileFault (inr came) idle = (came.gives.1, came.gives.2)
+untouched_of words files before now n o FileLong (inr came) idle = (came.gives.2, came.gives.3)
+untouched_of words files before now n o (Refused r) (inr came) idle = (came.gives.1.give.1, came.gives.1.give.2)
+untouched_of words files before now n o WriteFault (inr came) idle = absurd idle
+untouched_of words files before now n o NoMemory (inr came) idle = (came.gives.1, came.gives.2)
 
 pub told_of : (words : List (List ℕ)) (files : Option Files) (before now status : ℕ) (name : List ℕ) (n : ℕ) (o e : Output) (a : Answer) → Ways words files before now a n o → IsTold name a status e → Told status o e
 told_of words files before now status name n o e a came (inl (inr t)) = not_told status o e (ap fixed_line t.0)

@@ -6,6 +6,8 @@ use Rattle.std.specs.Io.KnownBytes.{append_known}
 use Rattle.ob_base.specs.Sink.{Tally, TakesPrefix, tally_known}
 use Rattle.ob_base.specs.Folder.{Files, IsMissing}
 use Rattle.ob_words.specs.Conversion.{residue}
+use Rattle.ob_model.specs.declared.endings.Ending.{Ending}
+use Rattle.ob_model.specs.declared.endings.Ending.TheVariants as endings
 use Rattle.ob_model.specs.Endings.{InputEnd}
 use Rattle.ob_code.specs.Start.{flat_instructions}
 use Rattle.ob_program.specs.declared.answer.Answer.{Answer}
@@ -96,6 +98,11 @@ FormGives form (Refused refusal) n o = ⊥
 FormGives form Usage n o = ⊥
 FormGives form FileFault n o = ⊥
 FormGives form FileLong n o = ⊥
+
+-- the answer to such a run by its ending, which is its number's or a failed write's
+abbrev pub ending_answer : Ending → Answer
+ending_answer (endings.Ended number) = Ended number
+ending_answer _ = WriteFault
 
 -- what the bytes of a source came to
 abbrev pub SourceGives : List ℕ → Answer → ℕ → Output → Type 0

@@ -1,4 +1,4 @@
-ghost use Rattle.std.specs.Prelude.{◌≡◌, ◌≢◌, ◌<◌, ◌≤◌, ◌⊎◌, map, string_bytes, unwrap_or, None, IsSome, IfSome};
+ghost use Rattle.std.specs.Prelude.{◌≡◌, ◌≢◌, ◌<◌, ◌≤◌, ◌⊎◌, map, string_bytes, unwrap_or, [], None, IsSome, IfSome};
 ghost use Rattle.std.specs.Io.KnownBytes.{append_known};
 ghost use Rattle.std.specs.Option.{option_copied};
 ghost use Rattle.ob_base.specs.Faults.{NoFault, Rose};
@@ -130,7 +130,17 @@ fn run<F: Folder, K: Sink, E: Sink>(
         (record { taken_before = E.taken err.old; taken_now = E.taken err.new; tally_before = E.tally err.old; tally_now = E.tally err.new; faults_before = E.faults err.old; faults_now = E.faults err.new }) }
 {
     let came = answer(alloc, job, folder, out);
-    tell(alloc, job.unwrap_or(""), came, err)
+    tell(alloc, file_name(job), came, err)
+}
+
+/// The name of the file that a job names, where there is one.
+fn file_name<'a>(job: Option<&'a str>) -> &'a str
+    ensures { result.now ≡ unwrap_or (option_copied job.entry) [] }
+{
+    match job {
+        Some(name) => name,
+        None => "",
+    }
 }
 
 /// Writes the answer's line to the error sink, and gives its status.

@@ -1,6 +1,6 @@
 ghost use Rattle.std.specs.Prelude.{◌≡◌, ◌<◌, ◌≤◌, ◌^◌, length};
 ghost use Rattle.std.specs.Option.{option_copied};
-ghost use Rattle.ob_program.specs.Answer.{FormGives, JobGives, SourceGives};
+ghost use Rattle.ob_program.specs.Answer.{FormGives, JobGives, SourceGives, ending_answer};
 ghost use Rattle.ob_program.specs.FirstCode.{first_code, only_main};
 ghost use Rattle.ob_program.specs.FirstForm.{FirstForm};
 ghost use Rattle.ob_program.specs.FirstRun.{Prints};
@@ -85,12 +85,19 @@ fn run_image<K: Sink>(alloc: Global, image: Verified, out: &mut K) -> Came
     let Ok(mut machine) = Machine::load(alloc, image, &USUAL) else {
         return not_run(Answer::NoMemory);
     };
-    let answer = match machine.run(USUAL_STEPS, &mut input, out) {
+    let ending = machine.run(USUAL_STEPS, &mut input, out);
+    Came {
+        answer: ending_answer(ending),
+        instructions: machine.instructions(),
+    }
+}
+
+/// The answer to a run that ended with its number, or else for a failed write.
+fn ending_answer(ending: Ending) -> Answer
+    ensures { result ≡ ending_answer ending }
+{
+    match ending {
         Ending::Ended(number) => Answer::Ended(number),
         _ => Answer::WriteFault,
-    };
-    Came {
-        answer,
-        instructions: machine.instructions(),
     }
 }

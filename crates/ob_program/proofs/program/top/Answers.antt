@@ -1,4 +1,4 @@
-use Rattle.std.proofs.Common.{map, subst}
+use Rattle.std.proofs.Common.{map}
 use Rattle.std.specs.Prelude.{string_bytes}
 use Rattle.std.specs.Global.{Global}
 use Rattle.ob_tree.specs.declared.faults.SyntaxKind.TheVariants.{NoTree, TooDeep}
@@ -6,6 +6,7 @@ use Rattle.ob_program.specs.declared.refusal.Refusal.TheVariants.{Lex, Syntax, N
 use Rattle.ob_program.specs.Answer.{Output, Runs}
 use Rattle.ob_program.specs.Job.{job_of}
 use Rattle.ob_program.proofs.Promises as promise
+use Rattle.ob_program.proofs.Promises.{Came}
 use Rattle.ob_program.proofs.program.top.Goals as goal
 use Rattle.ob_program.proofs.program.top.Given.{Over}
 
@@ -18,12 +19,15 @@ errors g c =
     record { taken_before = g.E.Sink.taken c.args.err.now; taken_now = g.E.Sink.taken c.run.new.err; tally_before = g.E.Sink.tally c.args.err.now; tally_now = g.E.Sink.tally c.run.new.err; faults_before = g.E.Sink.faults c.args.err.now; faults_now = g.E.Sink.faults c.run.new.err }
 
 -- what came of the words
-abbrev CameOf : (g : Over) → goal.After-drop-words-2 g → Type 0
-CameOf g c =
+abbrev RunsSo : (g : Over) → goal.After-drop-words-2 g → Type 0
+RunsSo g c =
     Runs (g.F.Folder.files c.args.folder.now) (g.F.Folder.faults c.args.folder.now) (g.F.Folder.faults c.run.new.folder) (job_of (map (string_bytes {Z = Global}) c.args.words.items)) c.run.result.code c.run.result.instructions (output g c) (errors g c)
 
-came : (g : Over) (c : goal.After-drop-words-2 g) → CameOf g c
-came g c = rw c.deref-in-None.ensures.value at rw c.job.ensures at c.run.ensures
+runs_so : (g : Over) (c : goal.After-drop-words-2 g) → RunsSo g c
+runs_so g c = rw c.deref-in-None.ensures.value at rw c.job.ensures at c.run.ensures
+
+came : (g : Over) (c : goal.After-drop-words-2 g) → Came (map (string_bytes {Z = Global}) c.args.words.items) (g.F.Folder.files c.args.folder.now) (g.F.Folder.faults c.args.folder.now) (g.F.Folder.faults c.run.new.folder) c.run.result.code c.run.result.instructions (output g c) (errors g c)
+came g c = let r = runs_so g c in record { answer = r.answer; gives = r.gives; told = r.told }
 
 pub returns-clause-runs : goal.returns-clause-runs
 returns-clause-runs g c = λ none. promise.runs_promise (came g c)
@@ -89,4 +93,4 @@ pub returns-clause-not_yet_when : goal.returns-clause-not_yet_when
 returns-clause-not_yet_when g c = λ none. promise.when_promise (came g c) NotYet
 
 pub returns-clause-run : goal.returns-clause-run
-returns-clause-run g c = λ none. came g c
+returns-clause-run g c = λ none. runs_so g c
