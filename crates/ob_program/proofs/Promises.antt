@@ -79,11 +79,14 @@ module _ {words : List (List ℕ)} {files : Option Files} {before now status n :
       let w = whole c code is m k in
       let r = is_refused c.answer code (sym w.0 ∙ is) (not_plain code large m k) in
       let job = came_as c (Refused r.0) r.1 (λ q. cc) in
-      let l = job.gives.1 in
-      (r.0, ap status_of (sym r.1) ∙ sym w.0 ∙ is, record {
-        refused = loaded_of words files job.name (Refused r.0) n o job.job_is tells l (Fits (Outcome.Refused r.0)) (l.short, l.give.0);
-        told = w.1 ∙ ap (λ a. append_known e.taken_before (line_of (file_name words) a)) r.1;
-      })
+      let l = job.gives.1 in (
+        r.0,
+        ap status_of (sym r.1) ∙ sym w.0 ∙ is,
+        record {
+          refused = loaded_of words files job.name (Refused r.0) n o job.job_is tells l (Fits (Outcome.Refused r.0)) (l.short, l.give.0);
+          told = w.1 ∙ ap (λ a. append_known e.taken_before (line_of (file_name words) a)) r.1;
+        },
+      )
 
   pub lex_only_promise : Came words files before now status n o e → status ≡ 131 → TellsFiles files → (kind : LexKind) × (position : Position) × IsDiagnosed words files (Lex kind position) e.taken_before e.taken_now
   lex_only_promise c is tells =

@@ -33,21 +33,27 @@ CameOut form e n w =
 came_out : (form : FirstForm) (image : Image) (after : MachineState) (e : Ending) (w : Writing) (input : List ℕ) (input_end : InputEnd) → image ≡ only_main (first_code form) → RunsAs form (flat_final image usual (0 ∷ []) 0 input input_end usual_steps) → ComesTo (flat_final image usual (0 ∷ []) 0 input input_end usual_steps) (loaded image usual) after e w → CameOut form e after.instructions w
 came_out form image after e w input input_end is does (inl done) =
     let counted = ap (λ (m : MachineState). m.instructions) done.machine ∙ ap (λ i. flat_instructions i usual (0 ∷ []) 0 input input_end usual_steps) is in
-    inl (done.ending ∙ does.ending, record {
-      number_is = refl;
-      taken = done.output.took ∙ ap (append_known w.taken_before) does.output;
-      tally = done.output.tallied ∙ ap (tally_known w.tally_before) does.output;
-      faults = done.output.quiet;
-      count = record { input = input; input_end = input_end; counted = counted };
-    })
+    inl (
+      done.ending ∙ does.ending,
+      record {
+        number_is = refl;
+        taken = done.output.took ∙ ap (append_known w.taken_before) does.output;
+        tally = done.output.tallied ∙ ap (tally_known w.tally_before) does.output;
+        faults = done.output.quiet;
+        count = record { input = input; input_end = input_end; counted = counted };
+      },
+    )
 came_out form image after e w input input_end is does (inr cut) =
-    inr (cut.ending, record {
-      cause = cut.output.cause;
-      took = subst (TakesPrefix w.taken_before w.taken_now w.tally_before w.tally_now) does.output cut.output.took;
-      whole = flat_instructions image usual (0 ∷ []) 0 input input_end usual_steps;
-      count = record { input = input; input_end = input_end; counted = ap (λ i. flat_instructions i usual (0 ∷ []) 0 input input_end usual_steps) is };
-      within = cut.instructions;
-    })
+    inr (
+      cut.ending,
+      record {
+        cause = cut.output.cause;
+        took = subst (TakesPrefix w.taken_before w.taken_now w.tally_before w.tally_now) does.output cut.output.took;
+        whole = flat_instructions image usual (0 ∷ []) 0 input input_end usual_steps;
+        count = record { input = input; input_end = input_end; counted = ap (λ i. flat_instructions i usual (0 ∷ []) 0 input input_end usual_steps) is };
+        within = cut.instructions;
+      },
+    )
 
 -- so with the answer to the ending
 form_gives : (form : FirstForm) (e : Ending) (n : ℕ) (w : Writing) → CameOut form e n w → FormGives form (ending_answer e) n (output_of w)

@@ -8,7 +8,7 @@ ghost use Rattle.ob_program.specs.Answer.{Declines};
 ghost use Rattle.ob_program.specs.Sources.{IsTextOf, fault_answer, position_behind, position_of};
 
 use crate::answer::Answer;
-use crate::refusal::{Refusal, Position};
+use crate::refusal::{Position, Refusal};
 use ob_lexer::lex;
 use ob_parser::parse;
 use ob_tree::{LexFault, LexKind, Program, SyntaxFault, SyntaxKind, Token};

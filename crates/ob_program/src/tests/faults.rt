@@ -9,12 +9,32 @@ use std::test::Fail;
 fn faults_and_places(rt: HostRuntime) -> Result<(), Fail> {
     let rows: [(&str, &[u8], &str, u8); 13] = [
         ("e.c", b"", "e.c:1:1: syntax NoTree\n", 132),
-        ("c.c", b"int main(void){return 1.5;}", "c.c:1:23: lex Stray\n", 131),
-        ("c.c", b"int x=99999999999999999999;", "c.c:1:7: lex Wide\n", 131),
+        (
+            "c.c",
+            b"int main(void){return 1.5;}",
+            "c.c:1:23: lex Stray\n",
+            131,
+        ),
+        (
+            "c.c",
+            b"int x=99999999999999999999;",
+            "c.c:1:7: lex Wide\n",
+            131,
+        ),
         ("c.c", b"/*", "c.c:1:1: lex Unclosed\n", 131),
         ("c.c", b"int x;\n  'a", "c.c:2:3: lex Unclosed\n", 131),
-        ("c.c", b"int main(void){return 0;\n", "c.c:2:1: syntax NoTree\n", 132),
-        ("c.c", b"int main(void){return 0;\n\n", "c.c:3:1: syntax NoTree\n", 132),
+        (
+            "c.c",
+            b"int main(void){return 0;\n",
+            "c.c:2:1: syntax NoTree\n",
+            132,
+        ),
+        (
+            "c.c",
+            b"int main(void){return 0;\n\n",
+            "c.c:3:1: syntax NoTree\n",
+            132,
+        ),
         ("c.c", b"int;\nint x;", "c.c:1:4: syntax NoTree\n", 132),
         ("c.c", b"int x;\n\n   }\n", "c.c:3:4: syntax NoTree\n", 132),
         ("c.c", b"/* \xc3\xa9 */ }", "c.c:1:10: syntax NoTree\n", 132),

@@ -9,20 +9,35 @@ use std::test::Fail;
 fn programs_that_run(rt: HostRuntime) -> Result<(), Fail> {
     let rows: [(&[u8], &str, u8); 11] = [
         (HELLO, "Hi", 3),
-        (b"int main(void){putchar(72);putchar(105);return 3;}\n", "Hi", 3),
-        (b"int main(void){putchar(2147483647+2147483647+67);return 0;}", "A", 0),
+        (
+            b"int main(void){putchar(72);putchar(105);return 3;}\n",
+            "Hi",
+            3,
+        ),
+        (
+            b"int main(void){putchar(2147483647+2147483647+67);return 0;}",
+            "A",
+            0,
+        ),
         (b"int main(void){return 2147483647+1;}", "", 0),
         (b"int main(void){return 2147483647+2;}", "", 1),
         (b"int main(void){return 128+5;}", "", 5),
         (b"int main(void){putchar('A');return 0;}", "A", 0),
         (b"int main(void){putchar(0x41);return 0;}", "A", 0),
         (b"int main(void){putchar(0101);return 0;}", "A", 0),
-        (b"#include <stdio.h>\n// one\nint main ( void ) { putchar ( 65 ) ; /* two */ return 0 ; }", "A", 0),
+        (
+            b"#include <stdio.h>\n// one\nint main ( void ) { putchar ( 65 ) ; /* two */ return 0 ; }",
+            "A",
+            0,
+        ),
         (b"const int main(void){putchar(65+256);return 0;}", "A", 0),
     ];
     for (source, out, status) in rows {
         let ran = run_source(rt.alloc(), source)?;
-        assert_eq!(rt; (ran.status, ran.out.as_str(), ran.err.as_str()), (status, out, ""));
+        assert_eq!(rt;
+            (ran.status, ran.out.as_str(), ran.err.as_str()),
+            (status, out, "")
+        );
     }
     let hello = run_source(rt.alloc(), HELLO)?;
     assert_eq!(rt; hello.instructions, 6);
@@ -69,6 +84,9 @@ fn longest_sums(rt: HostRuntime) -> Result<(), Fail> {
     let most = run_source(alloc, &sum_of(alloc, 200)?)?;
     assert_eq!(rt; (most.status, most.instructions), (72, 400));
     let more = run_source(alloc, &sum_of(alloc, 201)?)?;
-    assert_eq!(rt; (more.status, more.err.as_str()), (145, "oblivious: NotYet\n"));
+    assert_eq!(rt;
+        (more.status, more.err.as_str()),
+        (145, "oblivious: NotYet\n")
+    );
     Ok(())
 }

@@ -16,6 +16,6 @@ overflow_add-position-else-byte-eq10 c =
 pub loop-byte-preserved : goal.loop-byte-preserved
 loop-byte-preserved c =
     elim c.if-byte-eq10.branch [
-      then-byte-eq10 w ↦ w.position-is ∙ behind_feed c.args.before.now c.loop-byte.byte-index c.loop-byte.position c.loop-byte-test.true c.loop-byte.invariant w.if-byte-eq10.true
-    | else-byte-eq10 w ↦ w.position-is ∙ behind_other c.args.before.now c.loop-byte.byte-index c.loop-byte.position c.loop-byte-test.true c.loop-byte.invariant w.if-byte-eq10.false
+      | then-byte-eq10 w ↦ w.position-is ∙ behind_feed c.args.before.now c.loop-byte.byte-index c.loop-byte.position c.loop-byte-test.true c.loop-byte.invariant w.if-byte-eq10.true
+      | else-byte-eq10 w ↦ w.position-is ∙ behind_other c.args.before.now c.loop-byte.byte-index c.loop-byte.position c.loop-byte-test.true c.loop-byte.invariant w.if-byte-eq10.false
     ]

@@ -6,7 +6,7 @@ use Rattle.ob_program.proofs.source.run_source.Goals as goal
 
 pub returns-in-Ok-Some : goal.returns-in-Ok-Some
 returns-in-Ok-Some g c =
-    let w = c.in-Ok-Some.ensures in
+    let w = rw c.in-Ok-Some.field-0-is at c.in-Ok-Some.ensures in
     let few = few_prints (program_tree c.in-Ok.program) w.0 w.1 c.in-Ok.ensures.few in
     form_gives c.args.bytes.now w.0 c.run_image.result.answer c.run_image.result.instructions _
     (record { program = program_tree c.in-Ok.program; is_text = c.in-Ok.ensures.program; has_form = w.1 })
