@@ -6,50 +6,57 @@ use std::alloc::{AllocError, Global};
 use std::test::Fail;
 
 #[test]
-fn faults_and_places(rt: HostRuntime) -> Result<(), Fail> {
-    let rows: [(&str, &[u8], &str, u8); 13] = [
-        ("e.c", b"", "e.c:1:1: syntax NoTree\n", 132),
-        (
-            "c.c",
-            b"int main(void){return 1.5;}",
-            "c.c:1:23: lex Stray\n",
-            131,
-        ),
-        (
-            "c.c",
-            b"int x=99999999999999999999;",
-            "c.c:1:7: lex Wide\n",
-            131,
-        ),
-        ("c.c", b"/*", "c.c:1:1: lex Unclosed\n", 131),
-        ("c.c", b"int x;\n  'a", "c.c:2:3: lex Unclosed\n", 131),
-        (
-            "c.c",
-            b"int main(void){return 0;\n",
-            "c.c:2:1: syntax NoTree\n",
-            132,
-        ),
-        (
-            "c.c",
-            b"int main(void){return 0;\n\n",
-            "c.c:3:1: syntax NoTree\n",
-            132,
-        ),
-        ("c.c", b"int;\nint x;", "c.c:1:4: syntax NoTree\n", 132),
-        ("c.c", b"int x;\n\n   }\n", "c.c:3:4: syntax NoTree\n", 132),
-        ("c.c", b"/* \xc3\xa9 */ }", "c.c:1:10: syntax NoTree\n", 132),
-        ("a:b.c", b"}", "a:b.c:1:1: syntax NoTree\n", 132),
-        ("c.c", b"} $", "c.c:1:3: lex Stray\n", 131),
-        ("c.c", b"int x;", "oblivious: NotYet\n", 145),
+fn faults_of_tokens(rt: HostRuntime) -> Result<(), Fail> {
+    let rows: [(&[u8], &str); 6] = [
+        (b"int main(void){return 1.5;}", "c.c:1:23: lex Stray\n"),
+        (b"int x=99999999999999999999;", "c.c:1:7: lex Wide\n"),
+        (b"/*", "c.c:1:1: lex Unclosed\n"),
+        (b"int x;\n  'a", "c.c:2:3: lex Unclosed\n"),
+        (b"} $", "c.c:1:3: lex Stray\n"),
+        (b"\n\n\t\"a", "c.c:3:2: lex Unclosed\n"),
     ];
-    for (name, source, err, status) in rows {
-        let alloc = rt.alloc();
-        let line = format!(in alloc; "run {name}")?;
-        let ran = run(alloc, &line, name, source, &sound())?;
+    for (source, err) in rows {
+        let ran = run_source(rt.alloc(), source)?;
         assert_eq!(rt; ran.err.as_str(), err);
-        assert_eq!(rt; (ran.status, ran.out.as_str()), (status, ""), "at {err}");
-        assert_eq!(rt; ran.instructions, 0, "at {err}");
+        assert_eq!(rt; (ran.status, ran.out.as_str()), (131, ""));
+        assert_eq!(rt; ran.instructions, 0);
     }
+    Ok(())
+}
+
+#[test]
+fn faults_of_syntax(rt: HostRuntime) -> Result<(), Fail> {
+    let rows: [(&[u8], &str); 6] = [
+        (b"int main(void){return 0;\n", "c.c:2:1: syntax NoTree\n"),
+        (b"int main(void){return 0;\n\n", "c.c:3:1: syntax NoTree\n"),
+        (b"int;\nint x;", "c.c:1:4: syntax NoTree\n"),
+        (b"int x;\n\n   }\n", "c.c:3:4: syntax NoTree\n"),
+        (b"/* \xc3\xa9 */ }", "c.c:1:10: syntax NoTree\n"),
+        (b"// no line feed", "c.c:1:16: syntax NoTree\n"),
+    ];
+    for (source, err) in rows {
+        let ran = run_source(rt.alloc(), source)?;
+        assert_eq!(rt; ran.err.as_str(), err);
+        assert_eq!(rt; (ran.status, ran.out.as_str()), (132, ""));
+        assert_eq!(rt; ran.instructions, 0);
+    }
+    Ok(())
+}
+
+/// The line has the name as it was given.
+#[test]
+fn names_of_files(rt: HostRuntime) -> Result<(), Fail> {
+    let alloc = rt.alloc();
+    let empty = run(alloc, "run e.c", "e.c", b"", &sound())?;
+    assert_eq!(rt;
+        (empty.status, empty.err.as_str()),
+        (132, "e.c:1:1: syntax NoTree\n")
+    );
+    let colon = run(alloc, "run ./a:b.c", "./a:b.c", b"}", &sound())?;
+    assert_eq!(rt;
+        (colon.status, colon.err.as_str()),
+        (132, "./a:b.c:1:1: syntax NoTree\n")
+    );
     Ok(())
 }
 

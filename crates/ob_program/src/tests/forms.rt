@@ -46,7 +46,7 @@ fn programs_that_run(rt: HostRuntime) -> Result<(), Fail> {
 
 #[test]
 fn programs_that_do_not_run_yet(rt: HostRuntime) -> Result<(), Fail> {
-    let rows: [&[u8]; 9] = [
+    let rows: [&[u8]; 10] = [
         b"int main(void){putchar(65u);return 0;}",
         b"int main(void){putchar(65L);return 0;}",
         b"int main(void){return 2147483648;}",
@@ -56,6 +56,7 @@ fn programs_that_do_not_run_yet(rt: HostRuntime) -> Result<(), Fail> {
         b"int main(void){return 1-1;}",
         b"int main(void){putchar(65)+0;return 0;}",
         b"int start(void){return 0;}",
+        b"int x;",
     ];
     for source in rows {
         let ran = run_source(rt.alloc(), source)?;
