@@ -1,12 +1,11 @@
--- The steps of a run whose output goes through a buffer.
+-- Output that goes through a buffer, piece after piece.
 use Rattle.std.proofs.Common.{◌≡◌, ℕ, ◌+◌, min, List, [], ◌++◌, length, take, Option, sym, ap, ◌∙◌, subst, arith, append_assoc}
 use Rattle.std.specs.Io.KnownBytes.{append_known}
 use Rattle.std.proofs.lemmas.List.{append-nil, take_min, take-append-le}
 use Rattle.std.proofs.Math.Seq.{take-append-add}
 use Rattle.ob_base.specs.Sink.{Tally, TakesPrefix, tally_known}
 use Rattle.ob_base.proofs.Appending.{append_known-nil, append_known-then, tally_known-nil, tally_known-then}
-use Rattle.ob_machine.specs.First.{FirstRun, after_bytes}
-use Rattle.ob_machine.specs.Output.{SentOrPending}
+use Rattle.ob_machine.specs.Buffers.{SentOrPending}
 
 -- nothing was put
 pub sent_none : (t : Option (List ℕ)) (c : Option Tally) (pending : List ℕ) → SentOrPending t t c c pending (pending ++ [])
@@ -42,10 +41,6 @@ sent_prefix t0 t1 t2 c0 c1 c2 pending bytes more behind s p =
         p.1.1 ∙ ap (λ c. tally_known c (take k piece)) s.tallied ∙ tally_known-then c0 s.sent (take k piece) ∙ ap (tally_known c0) cut,
       ),
     )
-
--- what a run writes in two steps
-pub after_bytes-then : (xs ys : List ℕ) (run : FirstRun) → after_bytes xs (after_bytes ys run) ≡ after_bytes (xs ++ ys) run
-after_bytes-then xs ys run = let e : xs ++ (ys ++ run.written) ≡ (xs ++ ys) ++ run.written = sym (append_assoc xs ys run.written) in λ i. record { written = e i; ended = run.ended }
 
 -- a sink that failed at the pending bytes took a prefix of all that was put
 pub flush_prefix : (t0 t1 t2 : Option (List ℕ)) (c0 c1 c2 : Option Tally) (pending bytes : List ℕ) → SentOrPending t0 t1 c0 c1 pending bytes → TakesPrefix t1 t2 c1 c2 pending → TakesPrefix t0 t2 c0 c2 bytes
