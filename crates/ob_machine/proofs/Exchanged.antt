@@ -1,9 +1,8 @@
 -- What goes through the buffers: nothing, a byte, and one exchange after another.
-use Rattle.std.proofs.Common.{◌≡◌, ◌≢◌, ℕ, ◌+◌, ◌-◌, ◌%◌, ◌^◌, Bool, true, false, List, [], ◌∷◌, ◌++◌, length, take, Option, Some, None, Result, Ok, Err, refl, sym, ap, ◌∙◌, subst, append_assoc}
+use Rattle.std.proofs.Common.{◌≡◌, ◌≢◌, ℕ, ◌-◌, ◌%◌, ◌^◌, Bool, true, false, List, [], ◌∷◌, ◌++◌, Option, Some, None, Result, Ok, Err, refl, sym, ap, ◌∙◌, subst, append_assoc}
 use Rattle.std.specs.Prelude.{MatchBool, MatchOption}
-use Rattle.std.specs.Io.KnownBytes.{append_known, prepend_known, IsAtEnd}
+use Rattle.std.specs.Io.KnownBytes.{prepend_known, IsAtEnd}
 use Rattle.std.proofs.lemmas.List.{append-nil, append_cancel_left}
-use Rattle.ob_base.specs.Sink.{Tally}
 use Rattle.ob_base.proofs.Appending.{append_known-nil, tally_known-nil}
 use Rattle.ob_model.specs.declared.endings.Ending.{Ending}
 use Rattle.ob_model.specs.declared.endings.Ending.TheVariants.{Steps}
@@ -13,7 +12,7 @@ use Rattle.ob_code.specs.State.{Next, State, goes, stops}
 use Rattle.ob_machine.specs.declared.execution.Execution.{Execution}
 use Rattle.ob_machine.specs.declared.ports.Fault.{Fault}
 use Rattle.ob_machine.specs.declared.ports.Fault.TheVariants.{Read, Write}
-use Rattle.ob_machine.specs.Buffers.{IsFilled, IsUsedUp, Unread}
+use Rattle.ob_machine.specs.Buffers.{IsUsedUp, Unread}
 use Rattle.ob_machine.specs.Executions.{Beside, Is, state_of, word_of_byte}
 use Rattle.ob_machine.specs.Exchanges.{Advances, Answers, CanFollow, Devices, IsRefilled, KnowsEnd, Moves, Puts, having_written, reading}
 use Rattle.ob_machine.proofs.Handed.{ticked_once}

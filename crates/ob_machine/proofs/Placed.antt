@@ -27,7 +27,7 @@ use Rattle.ob_code.specs.Machine as machine
 use Rattle.ob_code.specs.Pointers as pointers
 use Rattle.ob_code.specs.Rules.{AreOperandsSound, IsBelow, IsCodeOf, IsInstructionSound, IsLast, IsPlaceOf, code_end, IsVerified, instruction_at, words_of, IsWritten}
 use Rattle.ob_code.specs.State.{Call, Setup, Space, State, Next, goes, stops}
-use Rattle.ob_machine.specs.Progress.{AreLinked, IsInnermost, IsLink, IsPlaced, IsReturnPlace}
+use Rattle.ob_machine.specs.Progress.{AreLinked, IsInnermost, IsLink, IsPlaced}
 
 -- the instruction at a place of a function is sound there
 sound_there : (image : Image) (f at : ℕ) (i : Instr) → IsVerified image → IsCodeOf image f at → slice_get image.code at ≡ Some i → AreOperandsSound image f i × (at + 1 ≡ code_end image f → IsLast i)
