@@ -4,7 +4,7 @@ use Rattle.std.specs.Prelude.{ℤ}
 use Rattle.std.proofs.lemmas.List.{take_all}
 use Rattle.std.proofs.Math.Seq.{take-nil}
 use Rattle.std.specs.Io.KnownBytes.{append_known}
-use Rattle.ob_base.specs.Faults.{NoFault, Rose}
+use Rattle.ob_base.specs.Faults.{NoFault}
 use Rattle.ob_base.specs.Sink.{Tally, TakesPrefix, tally_known}
 use Rattle.ob_base.proofs.Appending.{append_known-nil, tally_known-nil}
 use Rattle.ob_words.specs.Conversion.{residue}

@@ -5,7 +5,7 @@ use Rattle.std.proofs.lemmas.Bool.Decides.{nat_tests}
 use Rattle.std.proofs.lemmas.List.{take_more}
 use Rattle.ob_tree.specs.Bytes.{is_blank}
 use Rattle.ob_lexer.specs.declared.place.Place.{Place}
-use Rattle.ob_lexer.specs.Places.{place_of, step, moved}
+use Rattle.ob_lexer.specs.Places.{place_of, step}
 use Rattle.ob_lexer.proofs.PlaceLemmas.{moved-place, place-small}
 use Rattle.ob_program.specs.Sources.{position_behind}
 use Rattle.ob_program.specs.declared.refusal.Position.{Position}

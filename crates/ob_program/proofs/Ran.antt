@@ -1,5 +1,5 @@
 -- What the run of a first form's image comes to.
-use Rattle.std.proofs.Common.{◌≡◌, ℕ, ◌<◌, ◌≤◌, ◌⊎◌, inl, inr, List, [], ◌∷◌, length, refl, sym, ap, ◌∙◌, subst, arith, lit≤}
+use Rattle.std.proofs.Common.{◌≡◌, ℕ, ◌<◌, ◌⊎◌, inl, inr, List, [], ◌∷◌, length, refl, sym, ap, ◌∙◌, subst, arith, lit≤}
 use Rattle.std.specs.Io.KnownBytes.{append_known}
 use Rattle.ob_base.specs.Sink.{TakesPrefix, tally_known}
 use Rattle.ob_model.specs.declared.endings.Ending.{Ending}
@@ -8,7 +8,6 @@ use Rattle.ob_model.specs.Endings.{InputEnd}
 use Rattle.ob_model.specs.Settings.{IsFit}
 use Rattle.ob_code.specs.declared.image.Image.{Image}
 use Rattle.ob_code.specs.Start.{flat_final, flat_instructions}
-use Rattle.ob_code.specs.State.{Final}
 use Rattle.ob_machine.specs.Devices.{Reading, Writing}
 use Rattle.ob_machine.specs.Machines.{ComesTo, MachineState, Runs, loaded}
 use Rattle.ob_program.specs.Answer.{FormGives, Output, RanToEnd, WasCutOff, ending_answer}

@@ -1,5 +1,5 @@
 -- Each text that a source can have comes to an outcome.
-use Rattle.std.proofs.Common.{◌≡◌, ℕ, ◌^◌, ◌≤◌, ◌⊎◌, inl, inr, List, length, take, refl}
+use Rattle.std.proofs.Common.{ℕ, ◌^◌, ◌≤◌, ◌⊎◌, inl, inr, List, length, take, refl}
 use Rattle.std.specs.Prelude.{slice_get}
 use Rattle.ob_tree.specs.Programs.{ProgramTree}
 use Rattle.ob_tree.specs.declared.tokens.Token.{Token}

@@ -1,5 +1,5 @@
 -- What the texts of sources come to, as the code finds it.
-use Rattle.std.proofs.Common.{◌≡◌, ℕ, ◌+◌, ◌^◌, ◌<◌, ◌≤◌, List, [], ◌∷◌, ◌++◌, length, take, refl, sym, ap, ◌∙◌, arith, length-append}
+use Rattle.std.proofs.Common.{ℕ, ◌^◌, ◌<◌, ◌≤◌, List, ◌∷◌, length, ap, arith, length-append}
 use Rattle.ob_tree.specs.declared.tokens.Token.{Token}
 use Rattle.ob_tree.specs.declared.faults.LexKind.{LexKind}
 use Rattle.ob_tree.specs.Programs.{ProgramTree}
@@ -10,7 +10,7 @@ use Rattle.ob_lexer.specs.Texts.{StopsAt, text_of}
 use Rattle.ob_program.specs.declared.answer.Answer.{Answer}
 use Rattle.ob_program.specs.declared.answer.Answer.TheVariants.{Ended, WriteFault, NoMemory}
 use Rattle.ob_program.specs.declared.answer.Answer.TheVariants as answer
-use Rattle.ob_program.specs.Answer.{Declines, FormGives, Output, SourceGives}
+use Rattle.ob_program.specs.Answer.{FormGives, Output, SourceGives}
 use Rattle.ob_program.specs.FirstForm.{FirstForm}
 use Rattle.ob_program.specs.Sources.{IsOfForm}
 

@@ -129,9 +129,13 @@ fn longest_sources(rt: HostRuntime) -> Result<(), Fail> {
         (past.status, past.err.as_str()),
         (130, "oblivious: FileLong\n")
     );
+    Ok(())
+}
 
-    let blank = vec![in alloc; b' '; 1_048_576]?;
-    let nothing = run_source(alloc, &blank)?;
+#[test]
+fn longest_blank_source(rt: HostRuntime) -> Result<(), Fail> {
+    let blank = vec![in rt.alloc(); b' '; 1_048_576]?;
+    let nothing = run_source(rt.alloc(), &blank)?;
     assert_eq!(rt;
         (nothing.status, nothing.err.as_str()),
         (132, "c.c:1:1048577: syntax NoTree\n")

@@ -7,40 +7,52 @@ use std::test::Fail;
 
 #[test]
 fn programs_that_run(rt: HostRuntime) -> Result<(), Fail> {
-    let rows: [(&[u8], &str, u8); 11] = [
-        (HELLO, "Hi", 3),
-        (
-            b"int main(void){putchar(72);putchar(105);return 3;}\n",
-            "Hi",
-            3,
-        ),
-        (
-            b"int main(void){putchar(2147483647+2147483647+67);return 0;}",
-            "A",
-            0,
-        ),
-        (b"int main(void){return 2147483647+1;}", "", 0),
-        (b"int main(void){return 2147483647+2;}", "", 1),
-        (b"int main(void){return 128+5;}", "", 5),
-        (b"int main(void){putchar('A');return 0;}", "A", 0),
-        (b"int main(void){putchar(0x41);return 0;}", "A", 0),
-        (b"int main(void){putchar(0101);return 0;}", "A", 0),
-        (
-            b"#include <stdio.h>\n// one\nint main ( void ) { putchar ( 65 ) ; /* two */ return 0 ; }",
-            "A",
-            0,
-        ),
-        (b"const int main(void){putchar(65+256);return 0;}", "A", 0),
+    let hello = run_source(rt.alloc(), HELLO)?;
+    assert_eq!(rt; (hello.status, hello.out.as_str()), (3, "Hi"));
+    assert_eq!(rt; hello.instructions, 6);
+    let line = run_source(
+        rt.alloc(),
+        b"int main(void){putchar(72);putchar(105);return 3;}\n",
+    )?;
+    assert_eq!(rt; (line.status, line.out.as_str()), (3, "Hi"));
+    let wraps = run_source(
+        rt.alloc(),
+        b"int main(void){putchar(2147483647+2147483647+67);return 0;}",
+    )?;
+    assert_eq!(rt; (wraps.status, wraps.out.as_str()), (0, "A"));
+    Ok(())
+}
+
+#[test]
+fn returned_numbers(rt: HostRuntime) -> Result<(), Fail> {
+    let rows: [(&[u8], u8); 3] = [
+        (b"int main(void){return 2147483647+1;}", 0),
+        (b"int main(void){return 2147483647+2;}", 1),
+        (b"int main(void){return 128+5;}", 5),
     ];
-    for (source, out, status) in rows {
+    for (source, status) in rows {
         let ran = run_source(rt.alloc(), source)?;
         assert_eq!(rt;
             (ran.status, ran.out.as_str(), ran.err.as_str()),
-            (status, out, "")
+            (status, "", "")
         );
     }
-    let hello = run_source(rt.alloc(), HELLO)?;
-    assert_eq!(rt; hello.instructions, 6);
+    Ok(())
+}
+
+/// The same tokens in other spellings.
+#[test]
+fn spellings(rt: HostRuntime) -> Result<(), Fail> {
+    let rows: [&[u8]; 4] = [
+        b"int main(void){putchar('A');return 0;}",
+        b"int main(void){putchar(0x41);return 0;}",
+        b"int main(void){putchar(0101);return 0;}",
+        b"#include <stdio.h>\n// one\nconst int main ( void ) { putchar ( 65 ) ; /* two */ return 0 ; }",
+    ];
+    for source in rows {
+        let ran = run_source(rt.alloc(), source)?;
+        assert_eq!(rt; (ran.status, ran.out.as_str()), (0, "A"));
+    }
     Ok(())
 }
 

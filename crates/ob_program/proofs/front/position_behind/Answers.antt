@@ -1,4 +1,4 @@
-use Rattle.std.proofs.Common.{length, take, arith, ap, ◌∙◌}
+use Rattle.std.proofs.Common.{take, arith, ap, ◌∙◌}
 use Rattle.std.proofs.lemmas.List.{length-take-le}
 use Rattle.ob_program.specs.declared.refusal.Position.{Position}
 use Rattle.ob_program.proofs.Positions.{behind_feed, behind_other, position_small}

@@ -1,5 +1,3 @@
-use Rattle.std.proofs.Common.{sym, subst}
-use Rattle.ob_program.specs.Answer.{FormGives, Output}
 use Rattle.ob_program.proofs.Ran.{ran}
 use Rattle.ob_program.proofs.source.run_image.Goals as goal
 
