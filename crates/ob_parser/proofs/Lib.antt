@@ -17,3 +17,6 @@ pub mod Exact
 pub mod OneAnswer
 pub mod Light
 pub mod Lifts
+pub mod NewestPath
+pub mod Verdicts
+pub mod Follows

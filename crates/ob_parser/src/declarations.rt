@@ -2,11 +2,11 @@ ghost use Rattle.std.specs.Prelude.{◌≡◌, Some, IfOk};
 ghost use Rattle.ob_tree.specs.ExpressionView.{spec_tree, dim_trees, init_tree};
 ghost use Rattle.ob_tree.specs.ProgramView.{params_tree};
 ghost use Rattle.ob_tree.proofs.ProgramMachine.{after_dims as after_dims_of, begin_declaration as begin_declaration_of, begin_param as begin_param_of, closed as closed_of, declare as declare_of, first_param as first_param_of, initialised as initialised_of, last_comma as last_comma_of, param as param_of, specified as specified_of};
-ghost use Rattle.ob_parser.specs.Steps.{Leads};
+ghost use Rattle.ob_parser.specs.Steps.{Leads, Reaches};
 ghost use Rattle.ob_parser.specs.View.{braces_of, declaration_of, declarator_of, head_of, listing_of, mark, owner_of, spec_use_of, target_of};
 
 use crate::state::{
-    Braces, Declaration, Declarator, Head, Listing, Owner, Place, SpecUse, Step, Target,
+    Braces, Declaration, Declarator, Head, Listing, Owner, Place, SpecUse, State, Step, Target,
 };
 use ob_base::NoMemory;
 use ob_tree::{Dim, Init, Params, Spec, TokenKind};
@@ -27,8 +27,8 @@ pub fn specified(
     place: Place,
     use_: SpecUse,
     spec: Spec,
-) -> Result<Step, NoMemory>
-    ensures { IfOk result (λ s. Leads (mark place) kind.now s (specified_of (mark place) kind.now (spec_use_of use_) (Some (spec_tree spec)))) }
+) -> Result<Option<State>, NoMemory>
+    ensures { IfOk result (λ o. Reaches o (specified_of (mark place) kind.now (spec_use_of use_) (Some (spec_tree spec)))) }
 {
     let _unread = (alloc, kind, place, use_, spec);
     Err(NoMemory)

@@ -1,10 +1,10 @@
 ghost use Rattle.std.specs.Prelude.{◌≡◌, IfOk};
 ghost use Rattle.ob_tree.specs.ProgramView.{option_tree, stmt_tree};
 ghost use Rattle.ob_tree.proofs.ProgramMachine.{begin as begin_of, begin_init as begin_init_of, done as done_of, for_start as for_start_of, optional as optional_of, used as used_of};
-ghost use Rattle.ob_parser.specs.Steps.{Leads};
+ghost use Rattle.ob_parser.specs.Steps.{Leads, Reaches};
 ghost use Rattle.ob_parser.specs.View.{braces_of, frames_of, mark, target_of, use_of};
 
-use crate::state::{Braces, Frame, Place, Step, Target, Use};
+use crate::state::{Braces, Frame, Place, State, Step, Target, Use};
 use ob_base::NoMemory;
 use ob_tree::{Expr, Stmt, TokenKind};
 use std::alloc::Global;
@@ -13,13 +13,12 @@ use std::alloc::Global;
 pub fn used(
     alloc: Global,
     kind: &TokenKind,
-    place: Place,
     use_: Use,
     expr: Option<Expr>,
-) -> Result<Step, NoMemory>
-    ensures { IfOk result (λ s. Leads (mark place) kind.now s (used_of kind.now (use_of use_) (option_tree expr))) }
+) -> Result<Option<State>, NoMemory>
+    ensures { IfOk result (λ o. Reaches o (used_of kind.now (use_of use_) (option_tree expr))) }
 {
-    let _unread = (alloc, kind, place, use_, expr);
+    let _unread = (alloc, kind, use_, expr);
     Err(NoMemory)
 }
 

@@ -1,5 +1,6 @@
-ghost use Rattle.std.specs.Prelude.{◌≡◌, IfOk};
+ghost use Rattle.std.specs.Prelude.{◌≡◌, ◌≤◌, IfOk};
 ghost use Rattle.ob_tree.proofs.ProgramMachine.{step as step_of};
+ghost use Rattle.ob_parser.specs.Loads.{load};
 ghost use Rattle.ob_parser.specs.Steps.{Leads, state_of};
 ghost use Rattle.ob_parser.specs.View.{mark};
 
@@ -10,6 +11,7 @@ use std::alloc::Global;
 
 /// What the token at `place` leads to.
 pub fn step(alloc: Global, kind: &TokenKind, place: Place, state: State) -> Result<Step, NoMemory>
+    requires { load (state_of state) ≤ 256 }
     ensures { IfOk result (λ s. Leads (mark place) kind.now s (step_of (mark place) kind.now (state_of state))) }
 {
     let _unread = (alloc, kind, place, state);
