@@ -15,7 +15,6 @@ use Rattle.ob_tree.specs.declared.tokens.Sign.TheVariants as sign
 use Rattle.ob_tree.specs.Trees.{Mark, ExprTree, SpecTree}
 use Rattle.ob_tree.specs.Programs.{ProgramTree}
 use Rattle.ob_tree.specs.Valid.{IsOfSource}
-use Rattle.ob_tree.specs.Integers.{is_integer}
 use Rattle.ob_tree.specs.Levels.{is_unary}
 use Rattle.ob_tree.specs.Paths.{height, height_spec}
 use Rattle.ob_tree.specs.Places.{here}
@@ -31,9 +30,9 @@ use Rattle.ob_exprs.specs.Parsed.{IsExprVerdict, IsSpecVerdict}
 use Rattle.ob_exprs.specs.Reads as exprs
 use Rattle.ob_parser.specs.Answer.{Answer, IsAnswer, IsProgramVerdict}
 use Rattle.ob_parser.specs.Loads.{spec_depth, spec_load, use_depth, use_load, load, newest}
-use Rattle.ob_parser.specs.Reads.{reading, Kept, Reached, Behind, Ends, After, AwaitsExpr, AwaitsSpec}
+use Rattle.ob_parser.specs.Reads.{reading, Kept, Reached, Behind, Ends, After, AwaitsExpr, begins_spec, AwaitsSpec}
 use Rattle.ob_parser.proofs.SoundUses.{use-low}
-use Rattle.ob_parser.proofs.OneAnswer.{right-verdict, parsed, stopped, no-tree, too-deep}
+use Rattle.ob_parser.proofs.OneAnswer.{stopped, no-tree, too-deep}
 use Rattle.ob_parser.proofs.Light.{Light, IsBetween, step-light, used-light, specified-light, use-deep}
 use Rattle.ob_parser.proofs.Lifts.{turned, behind_expr, behind_spec, after_expr, after_spec, expr-answer, spec-answer}
 use Rattle.ob_parser.proofs.NewestPath.{newest-load}
@@ -104,15 +103,23 @@ expr-node m (kind.Str s) = omega arith
 expr-node m (kind.Word w) = word-node m w
 expr-node m (kind.Sign s) = sign-node m s
 
-spec-word-node : (p : ℕ) (w : Keyword) → HasNode (reader.spec_word p w [])
-spec-word-node p word.Void = omega arith
-spec-word-node p word.SizeT = omega arith
-spec-word-node p word.Struct = omega arith
-spec-word-node p w = cond-node (is_integer (w ∷ [])) (reader.AfterSpec (SpecTree.Integer p (w ∷ [])) []) (omega arith)
+-- where a specifier goes on
+abbrev Agrees : Bool → Option reader.State → Type 0
+Agrees true (Some q) = Unit {0}
+Agrees false None = Unit {0}
+Agrees b o = ⊥
 
-spec-node : (p : ℕ) (k : TokenKind) → HasNode (reader.specifier p k [])
-spec-node p (kind.Word w) = spec-word-node p w
-spec-node p k = tt
+word-agrees : (p : ℕ) (w : Keyword) → Agrees (reader.is_spec_word w) (reader.spec_word p w [])
+word-agrees p word.Void = tt
+word-agrees p w = tt
+
+spec-agrees : (p : ℕ) (k : TokenKind) → Agrees (begins_spec k) (reader.specifier p k [])
+spec-agrees p (kind.Word w) = word-agrees p w
+spec-agrees p k = tt
+
+no-specified : (m : Mark) (k : TokenKind) (u : SpecUse) → specified m k u None ≡ None
+no-specified m k (ForDeclaration h) = refl
+no-specified m k (ForParam l f n) = refl
 
 -- the verdict on the expression that begins at i, and on the specifier, where so many nodes stand above it
 abbrev of_expr : List Token → Use → (depth i : ℕ) → Verdict ExprTree
@@ -241,3 +248,79 @@ module _ (ts : List Token) (all : All (λ t. IsOfSource t.kind) ts) where
         let depth = min (use_depth u) 256 in
         let y : v ≡ of_expr ts u depth i = one-expr ts i depth (use_level u) v (of_expr ts u depth i) x (expr-verdict ts i depth all (omega (arith, a.below)) (omega arith) (use_level u) (use-low u)) in
         after-expr u e v x (y ∙ same-expr u)
+
+    -- a specifier that begins with it
+    first-spec : (depth : ℕ)
+        → of_spec ts depth i ≡ verdict reader.finish_spec (turn loads.load depth i (reader.Specifier []) (λ q. exprs.reading ts 17 depth (i + 1) q) (reader.step 17 (here (lines ts) i) t.kind (reader.Specifier [])))
+    first-spec depth = ap (λ ks. verdict reader.finish_spec (read (λ q k x. reader.step 17 (here (lines ts) q) k x) loads.load depth i ks (reader.Specifier []))) (kinds-at i t a)
+
+    ends-spec : (u : SpecUse) (v : Verdict SpecTree) → IsSpecVerdict ts i (spec_depth u) v → spec_load u ≤ 256
+        → IsProgramVerdict ts (after_spec (lines ts) u i (map (λ t. t.kind) (drop i ts)) v) → After ts i (λ j e k. specified (here (lines ts) j) k u (Some e)) v
+    ends-spec u (NoTree j) x l v = no-tree ts all j v
+    ends-spec u (TooDeep j) x l v = too-deep ts all j v
+    ends-spec u (Whole e j) x l v =
+        let f = stop-from (FrontSpec ts i (spec_depth u)) (DeepFrontSpec ts i) i (length ts) j (omega (arith, a.below)) x.0 in
+        let high : spec_depth u + height_spec e ≤ 256 = omega (arith, x.1.limit) in
+        record {
+          from_on = f.0;
+          token = λ z g. behind j (specified (here (lines ts) j) z.kind u (Some e)) (specified-light 256 (here (lines ts) j) z.kind u e l high)
+              (subst (λ ks. IsProgramVerdict ts (behind_spec (lines ts) u e j ks)) (kinds-from i j f.0 ∙ kinds-at j z (token-at ts j z g)) v);
+          nothing = λ g. no-tree ts all j (subst (λ ks. IsProgramVerdict ts (behind_spec (lines ts) u e j ks)) (kinds-from i j f.0 ∙ ap (map (λ (t : Token). t.kind)) (none-at ts j g)) v);
+        }
+
+    after-spec : (u : SpecUse) → step (here (lines ts) i) t.kind s ≡ program.specify (here (lines ts) i) t.kind u (reader.Specifier [])
+        → (v : Verdict SpecTree) → IsSpecVerdict ts i (spec_depth u) v → v ≡ of_spec ts (spec_depth u) i → After ts i (λ j e k. specified (here (lines ts) j) k u (Some e)) v
+    after-spec u e v x y =
+        go (reader.step 17 (here (lines ts) i) t.kind (reader.Specifier [])) refl
+        (subst (λ o. IsProgramVerdict ts (verdict finish (turn load 0 i s (λ x. reading ts (i + 1) x) o))) e whole_verdict)
+        (subst (Light 256) e light)
+      where
+        leads : (o : Option reader.State) → reader.step 17 (here (lines ts) i) t.kind (reader.Specifier []) ≡ o
+            → v ≡ verdict reader.finish_spec (turn loads.load (spec_depth u) i (reader.Specifier []) (λ q. exprs.reading ts 17 (spec_depth u) (i + 1) q) o)
+        leads o g = y ∙ first-spec (spec_depth u) ∙ ap (λ o. verdict reader.finish_spec (turn loads.load (spec_depth u) i (reader.Specifier []) (λ q. exprs.reading ts 17 (spec_depth u) (i + 1) q) o)) g
+
+        go : (o : Option reader.State) → reader.step 17 (here (lines ts) i) t.kind (reader.Specifier []) ≡ o
+            → IsProgramVerdict ts (verdict finish (turn load 0 i s (λ x. reading ts (i + 1) x) (program.specify_to (here (lines ts) i) t.kind u (reader.Specifier []) o)))
+            → Light 256 (program.specify_to (here (lines ts) i) t.kind u (reader.Specifier []) o) → After ts i (λ j e k. specified (here (lines ts) j) k u (Some e)) v
+        go None g p l = subst (After ts i (λ j e k. specified (here (lines ts) j) k u (Some e))) (sym (leads None g))
+            (found-none i (finish s) a.below (subst (λ o. IsProgramVerdict ts (verdict finish (turn load 0 i s (λ x. reading ts (i + 1) x) o))) (no-specified (here (lines ts) i) t.kind u) p))
+        go (Some q) g p l = test (nat_le (spec_depth u + loads.load q) 256) refl
+          where
+            test : (c : Bool) → nat_le (spec_depth u + loads.load q) 256 ≡ c → After ts i (λ j e k. specified (here (lines ts) j) k u (Some e)) v
+            test true h =
+                let w : spec_depth u + loads.load q ≤ 256 = leb-true _ _ h in
+                let m : spec_load u ≤ 256 = omega (arith, l w) in
+                let z : verdict finish (reading ts i (Specifying u (reader.Specifier []))) ≡ verdict finish (cond (nat_le (0 + load (Specifying u q)) 256) (reading ts (i + 1) (Specifying u q)) (Deep i)) =
+                ap (λ ks. verdict finish (read (λ q k x. step (here (lines ts) q) k x) load 0 i ks (Specifying u (reader.Specifier [])))) (kinds-at i t a)
+                ∙ ap (λ o. verdict finish (turn load 0 i (Specifying u (reader.Specifier [])) (λ x. reading ts (i + 1) x) (program.specify_to (here (lines ts) i) t.kind u (reader.Specifier []) o))) g in
+                ends-spec u v x m
+                (subst (IsProgramVerdict ts) (sym z ∙ spec-answer (lines ts) u (map (λ t. t.kind) (drop i ts)) i (reader.Specifier []) m ∙ ap (after_spec (lines ts) u i (map (λ t. t.kind) (drop i ts))) (sym y)) p)
+            test false h =
+                let d : 256 < 0 + load (Specifying u q) = omega (arith, false-le _ _ h) in
+                subst (After ts i (λ j e k. specified (here (lines ts) j) k u (Some e)))
+                (sym (leads (Some q) g ∙ ap (λ c. verdict reader.finish_spec (cond c (exprs.reading ts 17 (spec_depth u) (i + 1) q) (Deep i))) h))
+                (too-deep ts all i (subst (λ c. IsProgramVerdict ts (verdict finish (cond c (reading ts (i + 1) (Specifying u q)) (Deep i)))) (le-false (0 + load (Specifying u q)) 256 d) p))
+
+    deep-answer : (u : SpecUse) (o : Option reader.State) (c : Bool) → Agrees c o → 256 < spec_depth u
+        → IsProgramVerdict ts (verdict finish (turn load 0 i s (λ x. reading ts (i + 1) x) (program.specify_to (here (lines ts) i) t.kind u (reader.Specifier []) o)))
+        → IsAnswer ts (cond c (Answer.TooDeep i) (Answer.NoTree i))
+    deep-answer u (Some q) true g h p =
+        let d : 256 < 0 + load (Specifying u q) = omega arith in
+        too-deep ts all i (subst (λ c. IsProgramVerdict ts (verdict finish (cond c (reading ts (i + 1) (Specifying u q)) (Deep i)))) (le-false (0 + load (Specifying u q)) 256 d) p)
+    deep-answer u None false g h p =
+        found-none i (finish s) a.below (subst (λ o. IsProgramVerdict ts (verdict finish (turn load 0 i s (λ x. reading ts (i + 1) x) o))) (no-specified (here (lines ts) i) t.kind u) p)
+    deep-answer u (Some q) false g h p = absurd g
+    deep-answer u None true g h p = absurd g
+
+    same-token : (x : Token) → slice_get ts i ≡ Some x → slice_get ts i ≡ Some t → t ≡ x
+    same-token x g h = let e : Some t ≡ Some x = sym h ∙ g in cc
+
+    pub awaits-spec : (u : SpecUse) → slice_get ts i ≡ Some t → step (here (lines ts) i) t.kind s ≡ program.specify (here (lines ts) i) t.kind u (reader.Specifier []) → AwaitsSpec ts i u
+    awaits-spec u g e = record {
+      shallow = λ h v x.
+          after-spec u e v x (one-spec ts i (spec_depth u) v (of_spec ts (spec_depth u) i) x (spec-verdict ts i (spec_depth u) all (omega (arith, a.below)) h));
+      deep = λ h x n.
+          subst (λ (z : Token). IsAnswer ts (cond (begins_spec z.kind) (Answer.TooDeep i) (Answer.NoTree i))) (same-token x n g)
+          (deep-answer u (reader.step 17 (here (lines ts) i) t.kind (reader.Specifier [])) (begins_spec t.kind) (spec-agrees i t.kind) h
+          (subst (λ o. IsProgramVerdict ts (verdict finish (turn load 0 i s (λ x. reading ts (i + 1) x) o))) e whole_verdict));
+    }

@@ -20,3 +20,4 @@ pub mod Lifts
 pub mod NewestPath
 pub mod Verdicts
 pub mod Follows
+pub mod Loop

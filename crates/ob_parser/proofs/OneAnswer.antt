@@ -24,12 +24,11 @@ use Rattle.ob_parser.proofs.Exact.{machine, exact-program, goes-on, some-tree, f
 
 -- the right answer in the parser's terms, by the right verdict on how far programs go on
 module _ (ts : List Token) (all : All (λ t. IsOfSource t.kind) ts) where
-  pub right-verdict : (v : Verdict ProgramTree) × IsProgramVerdict ts v
-  right-verdict = (
-    verdict finish (read (λ q k s. step (here (lines ts) q) k s) load 0 0 (map (λ t. t.kind) ts) (Items [])),
-    right (λ q k s. step (here (lines ts) q) k s) load finish BeginsProgram IsProgram (PlacedProgram (lines ts)) 0 0 (machine (lines ts)) (exact-program (lines ts)) ts all ts 0 (Items []) refl (omega arith) (omega arith) refl (omega arith)
-        (λ j a b. absurd (omega arith)),
-  )
+  -- the machine's verdict is right
+  pub first-right : IsProgramVerdict ts (verdict finish (read (λ q k s. step (here (lines ts) q) k s) load 0 0 (map (λ t. t.kind) ts) (Items [])))
+  first-right =
+      right (λ q k s. step (here (lines ts) q) k s) load finish BeginsProgram IsProgram (PlacedProgram (lines ts)) 0 0 (machine (lines ts)) (exact-program (lines ts)) ts all ts 0 (Items []) refl (omega arith) (omega arith) refl (omega arith)
+      (λ j a b. absurd (omega arith))
 
   -- where programs begin with all tokens, the machine holds what keeps the limit behind them
   at-end : (n : ℕ) → n ≡ length ts → ((j : ℕ) → 0 ≤ j → j < length ts → FrontProgram ts j) → (s : State) × (machine (lines ts) (kinds ts 0 n) ≡ Some s) × (0 + load s ≤ 256)
@@ -89,7 +88,7 @@ module _ (ts : List Token) (all : All (λ t. IsOfSource t.kind) ts) where
   answer-of (Verdict.TooDeep i) v = (Answer.TooDeep i, too-deep i v)
 
   pub some-answer : (answer : Answer) × IsAnswer ts answer
-  some-answer = answer-of right-verdict.0 right-verdict.1
+  some-answer = answer-of (verdict finish (read (λ q k s. step (here (lines ts) q) k s) load 0 0 (map (λ t. t.kind) ts) (Items []))) first-right
 
 -- only one answer is right
 module _ (ts : List Token) where

@@ -1,13 +1,15 @@
 -- What holds while a program is read token by token.
-use Rattle.std.specs.Prelude.{◌≡◌, ℕ, ◌+◌, ◌<◌, ◌≤◌, min, List, length, map, drop, slice_get, Option, Some, None, Result, Ok, Err}
+use Rattle.std.specs.Prelude.{◌≡◌, ℕ, ◌+◌, ◌<◌, ◌≤◌, min, List, length, map, drop, slice_get, Bool, false, cond, Option, Some, None, Result, Ok, Err}
 use Rattle.ob_tree.specs.declared.faults.SyntaxFault.{SyntaxFault}
 use Rattle.ob_tree.specs.declared.faults.SyntaxFault.TheVariants as fault
 use Rattle.ob_tree.specs.declared.tokens.Token.{Token}
 use Rattle.ob_tree.specs.declared.tokens.TokenKind.{TokenKind}
+use Rattle.ob_tree.specs.declared.tokens.TokenKind.TheVariants as kind
 use Rattle.ob_tree.specs.Trees.{ExprTree, SpecTree}
 use Rattle.ob_tree.specs.Places.{here}
 use Rattle.ob_tree.specs.Fronts.{lines}
 use Rattle.ob_tree.specs.Answers.{Verdict, Whole, NoTree, TooDeep}
+use Rattle.ob_tree.proofs.Machine.{is_spec_word}
 use Rattle.ob_tree.proofs.ProgramStates as plain
 use Rattle.ob_tree.proofs.ProgramStates.{SpecUse, Use}
 use Rattle.ob_tree.proofs.ProgramMachine.{step, finish, use_level, used, specified}
@@ -53,9 +55,15 @@ After ts from next (TooDeep i) = IsAnswer ts (Answer.TooDeep i)
 abbrev pub AwaitsExpr : List Token → (i : ℕ) → Use → Type 0
 AwaitsExpr ts i u = (v : Verdict ExprTree) → IsExprVerdict ts i (min (use_depth u) 256) (use_level u) v → After ts i (λ j e k. used k u (Some e)) v
 
--- a specifier
-abbrev pub AwaitsSpec : List Token → (i : ℕ) → SpecUse → Type 0
-AwaitsSpec ts i u = (v : Verdict SpecTree) → IsSpecVerdict ts i (min (spec_depth u) 256) v → After ts i (λ j s k. specified (here (lines ts) j) k u (Some s)) v
+-- whether a specifier begins with a token of this kind
+abbrev pub begins_spec : TokenKind → Bool
+begins_spec (kind.Word word) = is_spec_word word
+begins_spec k = false
+
+-- A specifier for this begins at place i, if any does. Where no node may stand below, one that begins is too deep.
+pub record AwaitsSpec (ts : List Token) (i : ℕ) (u : SpecUse) : Type 0 where
+  pub shallow : spec_depth u ≤ 256 → (v : Verdict SpecTree) → IsSpecVerdict ts i (spec_depth u) v → After ts i (λ j s k. specified (here (lines ts) j) k u (Some s)) v
+  pub deep : 256 < spec_depth u → (t : Token) → slice_get ts i ≡ Some t → IsAnswer ts (cond (begins_spec t.kind) (Answer.TooDeep i) (Answer.NoTree i))
 
 -- the fault is the right answer, or want of memory
 abbrev pub IsRightFault : List Token → SyntaxFault → Type 0

@@ -69,7 +69,7 @@ fn use_depth(use_: &Use) -> usize
 }
 
 /// The nodes above a specifier that is read for this.
-fn spec_depth(use_: &SpecUse) -> usize
+pub fn spec_depth(use_: &SpecUse) -> usize
     ensures { result ≡ min (spec_depth_of (spec_use_of use_.now)) (2 ^ 64 - 1) }
 {
     match use_ {
@@ -84,14 +84,6 @@ pub fn depth_of_expr(use_: &Use) -> u32
     ensures small { result ≤ 256 }
 {
     use_depth(use_).min(256) as u32
-}
-
-/// The nodes above the specifier, at most so many as a path may have.
-pub fn depth_of_spec(use_: &SpecUse) -> u32
-    ensures exact { result ≡ min (spec_depth_of (spec_use_of use_.now)) 256 }
-    ensures small { result ≤ 256 }
-{
-    spec_depth(use_).min(256) as u32
 }
 
 /// Which expressions stand there.

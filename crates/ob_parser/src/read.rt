@@ -1,18 +1,18 @@
-ghost use Rattle.std.specs.Prelude.{◌≡◌, ◌<◌, ◌≤◌, ◌^◌, length, option_map, slice_get};
+ghost use Rattle.std.specs.Prelude.{◌≡◌, ◌<◌, ◌≤◌, ◌^◌, length, option_map, slice_get, if◌then◌else◌};
 ghost use Rattle.std.specs.List.{All};
 ghost use Rattle.ob_tree.specs.declared.faults.SyntaxFault.TheVariants as syntax;
 ghost use Rattle.ob_tree.specs.Valid.{IsOfSource};
-ghost use Rattle.ob_parser.specs.Reads.{AwaitsExpr, AwaitsSpec, IsRead, Kept, Turned};
+ghost use Rattle.ob_parser.specs.Reads.{AwaitsExpr, AwaitsSpec, IsRead, Kept, Turned, begins_spec as begins_spec_of};
 ghost use Rattle.ob_parser.specs.Steps.{state_of};
 ghost use Rattle.ob_parser.specs.View.{spec_use_of, use_of};
 
 use crate::declarations::specified;
-use crate::newest::{depth_of_expr, depth_of_spec, level_of, newest};
+use crate::newest::{depth_of_expr, level_of, newest, spec_depth};
 use crate::state::{Place, SpecUse, State, Step, Use};
-use crate::statements::used;
+use crate::statements::{begins_spec, used};
 use crate::steps::step;
 use ob_exprs::{parse_expr, parse_spec};
-use ob_tree::{SyntaxFault, Token};
+use ob_tree::{SyntaxFault, Token, TokenKind};
 use std::alloc::Global;
 
 /// The most nodes on a path.
@@ -49,6 +49,17 @@ fn after_expr(
     }
 }
 
+/// The fault at a token where no node may stand: a specifier that begins with it is too deep.
+fn deep_spec(use_: SpecUse, kind: &TokenKind, at: u32) -> SyntaxFault
+    ensures { result ≡ (if begins_spec_of kind.now then syntax.TooDeep at else syntax.NoTree at) }
+{
+    let _unread = use_;
+    match kind {
+        TokenKind::Word(word) if begins_spec(*word) => SyntaxFault::TooDeep(at),
+        _ => SyntaxFault::NoTree(at),
+    }
+}
+
 /// Reads a specifier for this and the token behind it, and gives the state there, and that token's
 /// place.
 fn after_spec(
@@ -63,7 +74,11 @@ fn after_spec(
     requires awaits { AwaitsSpec tokens.now.items from (spec_use_of use_) }
     ensures { Turned tokens.now.items from result }
 {
-    let (spec, at) = parse_spec(alloc, tokens, from, depth_of_spec(&use_))?;
+    let depth = spec_depth(&use_);
+    if LIMIT < depth {
+        return Err(deep_spec(use_, &tokens[from].kind, from as u32));
+    }
+    let (spec, at) = parse_spec(alloc, tokens, from, depth as u32)?;
     let Some(token) = token_at(tokens, at) else {
         return Err(SyntaxFault::NoTree(at as u32));
     };

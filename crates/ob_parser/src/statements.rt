@@ -1,13 +1,32 @@
 ghost use Rattle.std.specs.Prelude.{◌≡◌, IfOk};
 ghost use Rattle.ob_tree.specs.ProgramView.{option_tree, stmt_tree};
+ghost use Rattle.ob_tree.proofs.Machine.{is_spec_word};
 ghost use Rattle.ob_tree.proofs.ProgramMachine.{begin as begin_of, begin_init as begin_init_of, done as done_of, for_start as for_start_of, optional as optional_of, used as used_of};
 ghost use Rattle.ob_parser.specs.Steps.{Leads, Reaches};
 ghost use Rattle.ob_parser.specs.View.{braces_of, frames_of, mark, target_of, use_of};
 
 use crate::state::{Braces, Frame, Place, State, Step, Target, Use};
 use ob_base::NoMemory;
-use ob_tree::{Expr, Stmt, TokenKind};
+use ob_tree::{Expr, Keyword, Stmt, TokenKind};
 use std::alloc::Global;
+
+/// Whether a specifier begins with the word.
+pub fn begins_spec(word: Keyword) -> bool
+    ensures { result ≡ is_spec_word word }
+{
+    match word {
+        Keyword::Void
+        | Keyword::SizeT
+        | Keyword::Char
+        | Keyword::Short
+        | Keyword::Int
+        | Keyword::Long
+        | Keyword::Signed
+        | Keyword::Unsigned
+        | Keyword::Struct => true,
+        _ => false,
+    }
+}
 
 /// Behind an expression that was read for something, or in its place where there is none.
 pub fn used(
