@@ -1,5 +1,5 @@
 -- The loop that reads a program token by token.
-use Rattle.std.proofs.Common.{◌≡◌, ℕ, ◌+◌, ◌<◌, ◌≤◌, min, List, [], ◌∷◌, length, drop, map, get_or, slice_get, Option, Some, None, option_map, refl, sym, ◌∙◌, ap, subst, arith}
+use Rattle.std.proofs.Common.{◌≡◌, ℕ, ◌+◌, ◌<◌, ◌≤◌, min, List, [], ◌∷◌, length, drop, map, get_or, slice_get, Bool, true, false, cond, Option, Some, None, option_map, refl, sym, ◌∙◌, ap, subst, arith}
 use Rattle.std.specs.Prelude.{Ok, Err}
 use Rattle.std.specs.List.{All}
 use Rattle.std.proofs.lemmas.Option.{slice_get_read}
@@ -9,12 +9,13 @@ use Rattle.ob_tree.specs.declared.faults.SyntaxFault.TheVariants as fault
 use Rattle.ob_tree.specs.declared.expressions.Expr.{Expr}
 use Rattle.ob_tree.specs.declared.expressions.Spec.{Spec}
 use Rattle.ob_tree.specs.declared.programs.Item.{Item}
+use Rattle.ob_tree.specs.declared.programs.Program.{Program}
 use Rattle.ob_tree.specs.declared.tokens.Token.{Token}
 use Rattle.ob_tree.specs.declared.tokens.TokenKind.{TokenKind}
 use Rattle.ob_tree.specs.Trees.{Mark, ExprTree, SpecTree}
 use Rattle.ob_tree.specs.Programs.{ProgramTree}
 use Rattle.ob_tree.specs.ExpressionView.{expr_tree, spec_tree}
-use Rattle.ob_tree.specs.ProgramView.{item_tree}
+use Rattle.ob_tree.specs.ProgramView.{item_tree, program_tree}
 use Rattle.ob_tree.specs.Valid.{IsOfSource}
 use Rattle.ob_tree.specs.Places.{here}
 use Rattle.ob_tree.specs.Fronts.{lines}
@@ -30,7 +31,7 @@ use Rattle.ob_parser.specs.declared.state.Step.{Step}
 use Rattle.ob_parser.specs.declared.state.Step.TheVariants as stepped_to
 use Rattle.ob_parser.specs.declared.state.Use.{Use as CodeUse}
 use Rattle.ob_parser.specs.declared.state.SpecUse.{SpecUse as CodeSpecUse}
-use Rattle.ob_parser.specs.Answer.{Answer, IsAnswer, IsProgramVerdict}
+use Rattle.ob_parser.specs.Answer.{Answer, IsAnswer, IsProgramVerdict, ParsedProgram}
 use Rattle.ob_parser.specs.Loads.{spec_depth, use_depth, load, newest}
 use Rattle.ob_parser.specs.Steps.{Leads, Reaches, state_of}
 use Rattle.ob_parser.specs.View.{spec_use_of, use_of}
@@ -81,6 +82,14 @@ module _ (ts : List Token) (i : ℕ) (u : SpecUse) (w : AwaitsSpec ts i u) (dept
   pub spec-ends : (s : Spec) (j : ℕ) → ParsedSpec ts i depth (Ok (s, j)) → Ends ts i j (λ k. specified (here (lines ts) j) k u (Some (spec_tree s)))
   spec-ends s j h = spec-leads (Whole (spec_tree s) j) h
 
+-- a specifier where no node may stand
+pub deep-fault : (ts : List Token) (i : ℕ) (b : Bool) (x : SyntaxFault) → x ≡ cond b (fault.TooDeep i) (fault.NoTree i) → IsAnswer ts (cond b (Answer.TooDeep i) (Answer.NoTree i)) → IsRightFault ts x
+deep-fault ts i true x e h = subst (IsRightFault ts) (sym e) h
+deep-fault ts i false x e h = subst (IsRightFault ts) (sym e) h
+
+pub token_read : (ts : List Token) (i : ℕ) (t : Token) → i < length ts → t ≡ get_or ts i t → slice_get ts i ≡ Some t
+token_read ts i t b q = slice_get_read ts (length ts) i t refl b q
+
 -- the mark of the token, by its own line
 pub at_line : (ts : List Token) (j : ℕ) (t : Token) (P : Mark → Type 0) → slice_get ts j ≡ Some t → P (record { first = j; at = j; line = t.span.line }) → P (here (lines ts) j)
 at_line ts j t P g h = subst (λ n. P (record { first = j; at = j; line = n })) (sym (token-at ts j t g).line) h
@@ -109,7 +118,7 @@ between (state.Done s fs) = tt
 module _ (ts : List Token) (all : All (λ t. IsOfSource t.kind) ts) (i : ℕ) (t : Token) (b : i < length ts) (q : t ≡ get_or ts i t) (s : State) (k : Kept ts i (state_of s)) (x : Step)
     (given : Leads (record { first = i; at = i; line = t.span.line }) t.kind x (step (record { first = i; at = i; line = t.span.line }) t.kind (state_of s))) where
   found_at : slice_get ts i ≡ Some t
-  found_at = slice_get_read ts (length ts) i t refl b q
+  found_at = token_read ts i t b q
 
   leads : (y : Step) → x ≡ y → Leads (here (lines ts) i) t.kind y (step (here (lines ts) i) t.kind (state_of s))
   leads y e =
@@ -143,8 +152,19 @@ module _ (ts : List Token) (all : All (λ t. IsOfSource t.kind) ts) (s : plain.S
       subst (IsProgramVerdict ts)
       (ap (λ (rest : List Token). verdict finish (read (λ q k x. step (here (lines ts) q) k x) load 0 (length ts) (map (λ t. t.kind) rest) s)) (drop-length ts) ∙ ap (found (length ts)) e) k.right
 
-  pub end-whole : (p : ProgramTree) → finish s ≡ Some p → IsAnswer ts (Answer.Parsed p)
+  end-whole : (p : ProgramTree) → finish s ≡ Some p → IsAnswer ts (Answer.Parsed p)
   end-whole p e = parsed ts all (length ts) p (omega arith) (last (Some p) e)
 
-  pub end-open : finish s ≡ None → IsAnswer ts (Answer.NoTree (length ts))
+  end-open : finish s ≡ None → IsAnswer ts (Answer.NoTree (length ts))
   end-open e = no-tree ts all (length ts) (last None e)
+
+  pub parsed-whole : (o : Option Program) (p : Program) → option_map program_tree o ≡ finish s → o ≡ Some p → ParsedProgram ts (Ok p)
+  parsed-whole o p e n = end-whole (program_tree p) (sym e ∙ ap (option_map program_tree) n)
+
+  pub parsed-open : (o : Option Program) → option_map program_tree o ≡ finish s → o ≡ None → ParsedProgram ts (Err (fault.NoTree (length ts)))
+  parsed-open o e n = end-open (sym e ∙ ap (option_map program_tree) n)
+
+pub parsed-fault : (ts : List Token) (x : SyntaxFault) → IsRightFault ts x → ParsedProgram ts (Err x)
+parsed-fault ts (fault.NoTree i) h = h
+parsed-fault ts (fault.TooDeep i) h = h
+parsed-fault ts fault.NoMemory h = tt
