@@ -1,10 +1,11 @@
 -- The views of vectors with one item more, and of what is built from them.
-use Rattle.std.proofs.Common.{◌≡◌, ◌≢◌, ℕ, zero, suc, ◌<◌, ◌≤◌, List, [], ◌∷◌, ◌++◌, length, get_or, map, Bool, true, false, cond, Option, Some, None, refl, sym, ◌∙◌, ap, subst, arith}
+use Rattle.std.proofs.Common.{◌≡◌, ◌≢◌, ℕ, zero, suc, ◌+◌, ◌<◌, ◌≤◌, List, [], ◌∷◌, ◌++◌, length, get_or, drop, map, Bool, true, false, ◌&&◌, Option, Some, None, refl, sym, ◌∙◌, ap, subst, arith}
 use Rattle.std.specs.Prelude.{Vec}
+use Rattle.std.proofs.lemmas.List.{at_drop_more}
 use Rattle.std.specs.declared.alloc.Global.{Global}
 use Rattle.ob_tree.specs.declared.tokens.TokenKind.{TokenKind}
 use Rattle.ob_tree.specs.declared.expressions.ExprNode.TheBlock as block
-use Rattle.ob_tree.specs.declared.expressions.ExprNode.TheBlock.{Row_of-Init, end_of-Init, more_of-Init, items-the_row-Init, items_hidden-the_row-Init-1, Dim-length-None', Dim-length-Some'}
+use Rattle.ob_tree.specs.declared.expressions.ExprNode.TheBlock.{Row_of-Init, end_of-Init, more_of-Init, items-the_row-Init, items_hidden-the_row-Init-1, Row_of-Dim, end_of-Dim, more_of-Dim, items-the_row-Dim, items_hidden-the_row-Dim-4, Dim-length-None', Dim-length-Some'}
 use Rattle.ob_tree.specs.declared.expressions.Expr.{Expr}
 use Rattle.ob_tree.specs.declared.expressions.Init as init
 use Rattle.ob_tree.specs.declared.expressions.Init.{Init}
@@ -19,13 +20,13 @@ use Rattle.ob_tree.specs.declared.programs.FileDecl.{FileDecl}
 use Rattle.ob_tree.specs.declared.programs.FileDecl.TheVariants as file
 use Rattle.ob_tree.specs.Trees.{Mark, SpecTree, ObjTree, ObjTrees, DimTrees, InitTree, InitTrees}
 use Rattle.ob_tree.specs.Programs.{BlockTrees, ParamTree, ParamsTree}
-use Rattle.ob_tree.specs.ExpressionView.{obj_tree, obj_trees, held_init, dim_row, dim_trees, init_tree, init_row}
+use Rattle.ob_tree.specs.ExpressionView.{node_tree, obj_tree, obj_trees, held_init, dim_row, dim_trees, init_tree, init_row}
 use Rattle.ob_tree.specs.ProgramValid.{is_void_alone}
 use Rattle.ob_tree.specs.ProgramView.{stmt_node_tree, local_tree, param_tree, file_tree}
 use Rattle.ob_tree.proofs.ProgramStates as plain
 use Rattle.ob_tree.proofs.Frames.{add_obj}
 use Rattle.ob_tree.proofs.ProgramParts.{add_local, add_init, are_all_named, has_dims, has_lengths, has_items, is_first, is_tagged, objects, params_of}
-use Rattle.ob_exprs.proofs.Views.{dims-of, objs_pushed}
+use Rattle.ob_exprs.proofs.Views.{objs_pushed}
 use Rattle.ob_parser.specs.declared.state.State.{State}
 use Rattle.ob_parser.specs.Steps.{Leads, Reaches, stepped}
 use Rattle.ob_parser.specs.View.{block_trees, init_trees}
@@ -42,6 +43,14 @@ row-inits n (more_of-Init i is) = ap (InitTrees.Item (init_tree i)) (row-inits _
 pub list_made : (f : ℕ) (is : Vec Init Global) (comma : Bool) → init_tree (init.List f is comma) ≡ InitTree.Braces f (init_trees is.items) comma
 list_made f is comma =
     ap (λ x. InitTree.Braces f x comma) (row-inits _ (block.hidden-the_row-Init-1 is) ∙ ap init_trees (items_hidden-the_row-Init-1 is))
+
+row-dims : (n : _) (row : Row_of-Dim n) → dim_row row ≡ dim_trees (items-the_row-Dim n row)
+row-dims n end_of-Dim = refl
+row-dims n (more_of-Dim (Dim' Dim-length-None') ds) = ap DimTrees.Unsized (row-dims _ ds)
+row-dims n (more_of-Dim (Dim' (Dim-length-Some' f a l e)) ds) = ap (DimTrees.Sized (node_tree e f a l)) (row-dims _ ds)
+
+dims-of : (ds : Vec Dim Global) → dim_row (block.hidden-the_row-Dim-4 ds) ≡ dim_trees ds.items
+dims-of ds = row-dims _ (block.hidden-the_row-Dim-4 ds) ∙ ap dim_trees (items_hidden-the_row-Dim-4 ds)
 
 pub initial_made : (n : ℕ) (name : List ℕ) (a : ℕ) (ds : Vec Dim Global) (i : Init)
     → obj_tree (roll-ObjDecl (record { stars = n; name = name; at = a; dims = ds; init = Some i })) ≡ ObjTree.Initial n name a (dim_trees ds.items) (init_tree i)
@@ -161,3 +170,17 @@ no-dims (DimTrees.Sized e ds) h = absurd cc
 pub void_plain : (s : SpecTree) (n : ℕ) (name : Option (List ℕ)) (ds : DimTrees) → n ≡ 0 → name ≡ None → has_dims ds ≡ false
     → is_void_alone s n name ds ≡ is_void_alone s 0 None DimTrees.NoDims
 void_plain s n name ds a b h = ap (λ m. is_void_alone s m name ds) a ∙ ap (λ x. is_void_alone s 0 x ds) b ∙ ap (is_void_alone s 0 None) (no-dims ds h)
+
+-- a list of parameters from a place on
+from-place : (xs : List Param) (i : ℕ) (x : Param) → i < length xs → x ≡ get_or xs i x
+    → are_all_named (map param_tree (drop i xs)) ≡ (is_tagged x.name && are_all_named (map param_tree (drop (i + 1) xs)))
+from-place xs i x l e =
+    at_drop_more (λ ys. are_all_named (map param_tree ys)) xs i x l
+    ∙ ap (λ (y : Param). is_tagged y.name && are_all_named (map param_tree (drop (i + 1) xs))) (sym e)
+
+pub named_more : (xs : List Param) (i : ℕ) (x : Param) (t : List ℕ) → i < length xs → x ≡ get_or xs i x → x.name ≡ Some t
+    → are_all_named (map param_tree (drop i xs)) ≡ are_all_named (map param_tree (drop (i + 1) xs))
+named_more xs i x t l e h = from-place xs i x l e ∙ ap (λ n. is_tagged n && are_all_named (map param_tree (drop (i + 1) xs))) h
+
+pub unnamed_more : (xs : List Param) (i : ℕ) (x : Param) → i < length xs → x ≡ get_or xs i x → x.name ≡ None → are_all_named (map param_tree (drop i xs)) ≡ false
+unnamed_more xs i x l e h = from-place xs i x l e ∙ ap (λ n. is_tagged n && are_all_named (map param_tree (drop (i + 1) xs))) h

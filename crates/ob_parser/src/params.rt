@@ -194,6 +194,7 @@ pub fn param(
     }
 }
 
+#[tactic(auto, using(crate::proofs::Pushed::named_more, crate::proofs::Pushed::unnamed_more))]
 fn are_all_named(params: &[Param]) -> bool
     ensures { result ≡ are_all_named_of (map param_tree params.now) }
 {
