@@ -15,4 +15,5 @@ pub mod ConstantBounds
 pub mod NumberPieces
 pub mod QuotePieces
 pub mod Scanning
+pub mod SourceTokens
 pub mod PlaceLemmas

@@ -1,4 +1,6 @@
-ghost use Rattle.std.specs.Prelude.{◌≡◌, ℕ, ◌≤◌, ◌^◌, length, List, MatchResult, ◌⊎◌};
+ghost use Rattle.std.specs.Prelude.{◌≡◌, ℕ, ◌≤◌, ◌^◌, length, List, MatchResult, IfOk, ◌⊎◌};
+ghost use Rattle.std.specs.List.{All};
+ghost use Rattle.ob_tree.specs.Valid.{IsOfSource};
 ghost use Rattle.ob_tree.specs.declared.tokens.Token.{Token};
 ghost use Rattle.ob_tree.specs.declared.faults.LexKind.{LexKind};
 ghost use Rattle.ob_lexer.specs.Texts.{Spells, StopsAt, HasLexFault, fault_of};
@@ -10,11 +12,12 @@ use ob_tree::{LexFault, Token};
 use std::alloc::Global;
 
 /// Reads a source text of at most 2^20 bytes as tokens (C99 6.4): each is the longest that is possible
-/// at its place. `Ok` has the tokens among the pieces of the text, in order, with their places. The
-/// faults have the first place at which no token or space can be taken, as a number of bytes from the
-/// text's begin: `Unclosed` where a comment, string or character constant begins there and doesn't end,
-/// else `Wide` where an integer constant or a numeric escape there is too great, else `Stray`.
-/// `NoMemory` may come for want of memory. The time is linear in the text's length.
+/// at its place. `Ok` has the tokens among the pieces of the text, in order, with their places: at most
+/// 2^20, each of a kind that some text of at most 2^20 bytes is. The faults have the first place at which
+/// no token or space can be taken, as a number of bytes from the text's begin: `Unclosed` where a comment,
+/// string or character constant begins there and doesn't end, else `Wide` where an integer constant or a
+/// numeric escape there is too great, else `Stray`. `NoMemory` may come for want of memory. The time is
+/// linear in the text's length.
 pub fn lex(alloc: Global, bytes: &[u8]) -> Result<Vec<Token>, LexFault>
     requires { length bytes.now ≤ 2 ^ 20 }
     ensures right { MatchResult result (λ tokens. Spells tokens.items bytes.now) (HasLexFault bytes.now) }
@@ -22,6 +25,8 @@ pub fn lex(alloc: Global, bytes: &[u8]) -> Result<Vec<Token>, LexFault>
         → MatchResult result (λ tokens. tokens.items ≡ ts) (λ fault. fault ≡ LexFault.NoMemory) }
     ensures faulty { (kind : LexKind) (at : ℕ) → StopsAt bytes.now kind at
         → MatchResult result (λ _. ⊥) (λ fault. (fault ≡ fault_of kind at) ⊎ (fault ≡ LexFault.NoMemory)) }
+    ensures few { IfOk result (λ tokens. length tokens.items ≤ 2 ^ 20) }
+    ensures of_source { IfOk result (λ tokens. All (λ t. IsOfSource t.kind) tokens.items) }
 {
     let mut tokens = Vec::new(alloc);
     let mut place = Place::start();

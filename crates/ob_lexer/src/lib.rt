@@ -1,4 +1,9 @@
-//! The lexer: a source text to its tokens, or to the first fault.
+//! The lexer: a source text to its tokens (C99 6.4), or to its first fault. The tokens are the one list
+//! that spells the text by longest match, each with its place, line and column; they are few enough, and
+//! each of a kind that a source can have, for the parsers to take them. A fault has the first place where
+//! nothing can be taken, and whether it is unclosed, wide or stray there. A text has one of the two, and
+//! only one. Takes memory for the tokens, and time linear in the text. Stands on `ob_tree` for tokens and
+//! the grammar of texts, on `ob_words` for the types of constants, and on `ob_base` for byte lists.
 #![tactic(auto)]
 
 pub use lexer::{law_one_reading, lex};

@@ -5,11 +5,11 @@
 #![tactic(auto)]
 
 pub use laws::{law_one_answer, law_some_answer};
-pub use parse::parse;
+pub use parser::parse;
 
 mod declarations;
 mod laws;
-mod parse;
+mod parser;
 mod state;
 mod statements;
 mod steps;

@@ -24,12 +24,7 @@ pub fn used(
 }
 
 /// An expression begins with the token, or none stands here.
-pub fn optional(
-    alloc: Global,
-    kind: &TokenKind,
-    place: Place,
-    use_: Use,
-) -> Result<Step, NoMemory>
+pub fn optional(alloc: Global, kind: &TokenKind, place: Place, use_: Use) -> Result<Step, NoMemory>
     ensures { IfOk result (λ s. Leads (mark place) kind.now s (optional_of (mark place) kind.now (use_of use_))) }
 {
     let _unread = (alloc, kind, place, use_);

@@ -9,12 +9,7 @@ use ob_tree::TokenKind;
 use std::alloc::Global;
 
 /// What the token at `place` leads to.
-pub fn step(
-    alloc: Global,
-    kind: &TokenKind,
-    place: Place,
-    state: State,
-) -> Result<Step, NoMemory>
+pub fn step(alloc: Global, kind: &TokenKind, place: Place, state: State) -> Result<Step, NoMemory>
     ensures { IfOk result (λ s. Leads (mark place) kind.now s (step_of (mark place) kind.now (state_of state))) }
 {
     let _unread = (alloc, kind, place, state);

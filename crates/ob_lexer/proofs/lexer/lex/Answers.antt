@@ -2,6 +2,7 @@ use Rattle.std.proofs.Common.{arith, sym, subst}
 use Rattle.ob_lexer.specs.Texts.{HasLexFault}
 use Rattle.ob_lexer.proofs.PlaceLemmas.{reading-start, reading-small, reading-refused, took, reading-next, reading-end}
 use Rattle.ob_lexer.proofs.Scanning.{right-spelled, right-faulty, spells-same, spells-no-fault}
+use Rattle.ob_lexer.proofs.SourceTokens.{spells-few, spells-of-source}
 use Rattle.ob_lexer.proofs.lexer.lex.Goals as goal
 
 pub loop-place-init : goal.loop-place-init
@@ -14,6 +15,8 @@ returns-in-Err c =
     record {
       right = right;
       spelled = λ ts g. right-spelled c.args.bytes.now ts c.fault.result g right;
+      few = tt;
+      of_source = tt;
       faulty = λ k i g. right-faulty c.args.bytes.now k i c.fault.result g right;
     }
 
@@ -54,5 +57,7 @@ returns c =
     record {
       right = right;
       spelled = λ ts g. spells-same c.args.bytes.now c.loop-place.tokens.items ts right g;
+      few = spells-few c.args.bytes.now c.loop-place.tokens.items c.requires right;
+      of_source = spells-of-source c.args.bytes.now c.loop-place.tokens.items c.requires right;
       faulty = λ k i g. spells-no-fault c.args.bytes.now c.loop-place.tokens.items k i right g;
     }
