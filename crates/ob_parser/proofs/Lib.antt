@@ -17,3 +17,4 @@ pub mod Exact
 pub mod OneAnswer
 pub mod Light
 pub mod Lifts
+pub mod Pushed

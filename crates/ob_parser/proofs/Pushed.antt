@@ -9,7 +9,7 @@ use Rattle.ob_tree.specs.declared.expressions.ExprNode.TheBlock.{Row_of-Init, en
 use Rattle.ob_tree.specs.declared.expressions.Expr.{Expr}
 use Rattle.ob_tree.specs.declared.expressions.Init as init
 use Rattle.ob_tree.specs.declared.expressions.Init.{Init}
-use Rattle.ob_tree.specs.declared.expressions.Dim.{Dim, Dim', out-Dim}
+use Rattle.ob_tree.specs.declared.expressions.Dim.{Dim, Dim', out-Dim, is-Dim'}
 use Rattle.ob_tree.specs.declared.expressions.ObjDecl.{ObjDecl, roll-ObjDecl, out-roll-ObjDecl, is-ObjDecl'}
 use Rattle.ob_tree.specs.declared.programs.BlockItem as item
 use Rattle.ob_tree.specs.declared.programs.BlockItem.{BlockItem}
@@ -20,7 +20,7 @@ use Rattle.ob_tree.specs.declared.programs.FileDecl.{FileDecl}
 use Rattle.ob_tree.specs.declared.programs.FileDecl.TheVariants as file
 use Rattle.ob_tree.specs.Trees.{Mark, SpecTree, ObjTree, ObjTrees, DimTrees, InitTree, InitTrees}
 use Rattle.ob_tree.specs.Programs.{BlockTrees, ParamTree, ParamsTree}
-use Rattle.ob_tree.specs.ExpressionView.{node_tree, obj_tree, obj_trees, held_init, dim_row, dim_trees, init_tree, init_row}
+use Rattle.ob_tree.specs.ExpressionView.{node_tree, obj_tree, obj_trees, held_init, held_length, dim_row, dim_trees, init_tree, init_row}
 use Rattle.ob_tree.specs.ProgramValid.{is_void_alone}
 use Rattle.ob_tree.specs.ProgramView.{stmt_node_tree, local_tree, param_tree, file_tree}
 use Rattle.ob_tree.proofs.ProgramStates as plain
@@ -103,12 +103,10 @@ some_dims (Dim' Dim-length-None' ∷ ds) h = refl
 some_dims (Dim' (Dim-length-Some' f a l e) ∷ ds) h = refl
 
 open-dims : (d : Dim) (ds : List Dim) → (out-Dim d).length ≡ None → has_lengths (dim_trees (d ∷ ds)) ≡ false
-open-dims (Dim' Dim-length-None') ds h = refl
-open-dims (Dim' (Dim-length-Some' f a l e)) ds h = absurd cc
+open-dims d ds h = ap (λ x. has_lengths (dim_trees (x ∷ ds))) (is-Dim' d) ∙ ap (λ o. has_lengths (held_length (block.back-Dim-length o) (dim_trees ds))) h
 
 full-dims : (d : Dim) (ds : List Dim) (e : Expr) → (out-Dim d).length ≡ Some e → has_lengths (dim_trees (d ∷ ds)) ≡ true
-full-dims (Dim' Dim-length-None') ds x h = absurd cc
-full-dims (Dim' (Dim-length-Some' f a l e)) ds x h = refl
+full-dims d ds e h = ap (λ x. has_lengths (dim_trees (x ∷ ds))) (is-Dim' d) ∙ ap (λ o. has_lengths (held_length (block.back-Dim-length o) (dim_trees ds))) h
 
 pub lengths_none : (ds : List Dim) → length ds ≡ 0 → has_lengths (dim_trees ds) ≡ true
 lengths_none [] h = refl

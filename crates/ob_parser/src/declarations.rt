@@ -8,9 +8,14 @@ ghost use Rattle.ob_parser.specs.View.{block_trees, declaration_of, mark, owner_
 
 use crate::frames::push_frame;
 use crate::params::param;
-use crate::state::{Declaration, Declarator, Frame, Head, Heading, Owner, Place, SpecUse, State, Step, Use};
+use crate::state::{
+    Declaration, Declarator, Frame, Head, Heading, Owner, Place, SpecUse, State, Step, Use,
+};
 use ob_base::{NoMemory, Text};
-use ob_tree::{BlockItem, FileDecl, ForStart, Item, ItemNode, Keyword, Local, ObjDecl, Sign, Spec, SpecNode, TokenKind};
+use ob_tree::{
+    BlockItem, FileDecl, ForStart, Item, ItemNode, Keyword, Local, ObjDecl, Sign, Spec, SpecNode,
+    TokenKind,
+};
 use std::alloc::Global;
 
 pub fn copy_of(alloc: Global, text: &Text) -> Result<Text, NoMemory>
@@ -70,11 +75,11 @@ fn local(
     names: Vec<FileDecl>,
 ) -> Result<Local, NoMemory>
     ensures { IfOk result (λ l. local_tree l ≡ record {
-        first = first;
-        line = line;
-        fixed = fixed;
-        spec = spec_tree spec;
-        names = objects_of (map file_tree names.items);
+      first = first;
+      line = line;
+      fixed = fixed;
+      spec = spec_tree spec;
+      names = objects_of (map file_tree names.items);
     }) }
 {
     let names = objects(alloc, names)?;
@@ -216,10 +221,7 @@ pub fn declare(
                 name: copy_of(alloc, text)?,
                 at: place.at,
             };
-            Ok(Some(State::Dims(
-                Head::Name(declarator),
-                Vec::new(alloc),
-            )))
+            Ok(Some(State::Dims(Head::Name(declarator), Vec::new(alloc))))
         }
         _ => Ok(None),
     }

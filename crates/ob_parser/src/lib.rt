@@ -8,7 +8,11 @@ pub use laws::{law_one_answer, law_some_answer};
 pub use parser::parse;
 
 mod declarations;
+mod declarators;
+mod frames;
+mod initialisers;
 mod laws;
+mod params;
 mod parser;
 mod state;
 mod statements;

@@ -12,7 +12,10 @@ ghost use Rattle.ob_parser.specs.View.{declarator_of, listing_of, mark, owner_of
 use crate::declarations::{add_name, copy_of, next_name};
 use crate::declarators::{after_dims, has_dims};
 use crate::frames::push_frame;
-use crate::state::{Declaration, Declarator, Definition, Frame, Head, Heading, Listing, Owner, Place, SpecUse, State, Step, Use};
+use crate::state::{
+    Declaration, Declarator, Definition, Frame, Head, Heading, Listing, Owner, Place, SpecUse,
+    State, Step, Use,
+};
 use ob_base::NoMemory;
 use ob_tree::{FileDecl, Param, Params, Sign, Spec, SpecNode, TokenKind};
 use std::alloc::Global;
