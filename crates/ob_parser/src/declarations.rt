@@ -1,10 +1,12 @@
 ghost use Rattle.std.specs.Prelude.{◌≡◌, ◌<◌, ◌++◌, ◌∷◌, [], Bool, IfOk, Some, map};
+ghost use Rattle.ob_tree.specs.Programs.{ItemTree};
 ghost use Rattle.ob_tree.specs.ExpressionView.{obj_trees, spec_tree};
 ghost use Rattle.ob_tree.specs.ProgramView.{file_tree, item_tree, local_tree};
+ghost use Rattle.ob_tree.proofs.ProgramStates.{Begin, InBlock, Items};
 ghost use Rattle.ob_tree.proofs.ProgramMachine.{begin_declaration as begin_declaration_of, declare as declare_of, end_declaration as end_declaration_of, first_name as first_name_of, next_name as next_name_of, specified as specified_of};
 ghost use Rattle.ob_tree.proofs.ProgramParts.{add_local as add_local_of, add_name as add_name_of, declares_tag as declares_tag_of, objects as objects_of};
 ghost use Rattle.ob_parser.specs.Steps.{Leads, Reaches, state_of};
-ghost use Rattle.ob_parser.specs.View.{block_trees, declaration_of, mark, owner_of, spec_use_of};
+ghost use Rattle.ob_parser.specs.View.{block_trees, declaration_of, frames_of, mark, owner_of, spec_use_of};
 
 use crate::frames::push_frame;
 use crate::params::param;
@@ -109,6 +111,46 @@ fn push_local(items: Vec<BlockItem>, local: Local) -> Result<Vec<BlockItem>, NoM
     Ok(items)
 }
 
+/// The state behind a whole external declaration.
+fn end_outside(
+    items: Vec<Item>,
+    first: u32,
+    line: u32,
+    fixed: bool,
+    spec: Spec,
+    names: Vec<FileDecl>,
+) -> Result<State, NoMemory>
+    ensures { IfOk result (λ s. state_of s ≡ Items (map item_tree items.items
+        ++ ItemTree.Decls first line fixed (spec_tree spec) (map file_tree names.items) ∷ [])) }
+{
+    let node = ItemNode::Decls(names);
+    let item = Item {
+        first,
+        line,
+        fixed,
+        spec,
+        node,
+    };
+    Ok(State::Items(push_item(items, item)?))
+}
+
+/// The state behind a whole declaration of a block.
+fn end_inside(
+    first: u32,
+    line: u32,
+    items: Vec<BlockItem>,
+    frames: Vec<Frame>,
+    local: Local,
+) -> Result<State, NoMemory>
+    ensures { IfOk result (λ s. state_of s
+        ≡ Begin (InBlock first line (add_local_of (block_trees items.items) (local_tree local)) ∷ frames_of frames.items)) }
+{
+    let items = push_local(items, local)?;
+    let mut frames = frames;
+    push_frame(&mut frames, Frame::Block { first, line, items })?;
+    Ok(State::Begin(frames))
+}
+
 /// The state behind a whole declaration.
 fn end_declaration(alloc: Global, declaration: Declaration) -> Result<State, NoMemory>
     ensures { IfOk result (λ s. state_of s ≡ end_declaration_of (declaration_of declaration)) }
@@ -125,16 +167,7 @@ fn end_declaration(alloc: Global, declaration: Declaration) -> Result<State, NoM
         fixed,
     } = heading;
     match owner {
-        Owner::Outer(items) => {
-            let item = Item {
-                first,
-                line,
-                fixed,
-                spec,
-                node: ItemNode::Decls(names),
-            };
-            Ok(State::Items(push_item(items, item)?))
-        }
+        Owner::Outer(items) => end_outside(items, first, line, fixed, spec, names),
         Owner::Inner {
             first: block,
             line: at,
@@ -142,15 +175,7 @@ fn end_declaration(alloc: Global, declaration: Declaration) -> Result<State, NoM
             frames,
         } => {
             let local = local(alloc, first, line, fixed, spec, names)?;
-            let items = push_local(items, local)?;
-            let frame = Frame::Block {
-                first: block,
-                line: at,
-                items,
-            };
-            let mut frames = frames;
-            push_frame(&mut frames, frame)?;
-            Ok(State::Begin(frames))
+            end_inside(block, at, items, frames, local)
         }
         Owner::Start {
             first: begin,

@@ -1,13 +1,14 @@
-ghost use Rattle.std.specs.Prelude.{◌≡◌, ◌<◌, IfOk, None, map};
+ghost use Rattle.std.specs.Prelude.{◌≡◌, ◌<◌, ◌∷◌, [], IfOk, None, map};
 ghost use Rattle.ob_tree.specs.Trees.{DimTrees};
+ghost use Rattle.ob_tree.specs.Programs.{BlockTrees};
 ghost use Rattle.ob_tree.specs.ExpressionView.{dim_trees, spec_tree};
 ghost use Rattle.ob_tree.specs.ProgramValid.{is_void_alone as is_void_alone_of};
 ghost use Rattle.ob_tree.specs.ProgramView.{file_tree, param_tree, params_tree};
-ghost use Rattle.ob_tree.proofs.ProgramStates.{OfParam};
-ghost use Rattle.ob_tree.proofs.ProgramMachine.{after_param as after_param_of, begin_body as begin_body_of, begin_param as begin_param_of, closed as closed_of, first_param as first_param_of, next_param as next_param_of, param as param_of};
+ghost use Rattle.ob_tree.proofs.ProgramStates.{InBlock, InBody, OfParam};
+ghost use Rattle.ob_tree.proofs.ProgramMachine.{after_dims as after_dims_of, after_param as after_param_of, begin_body as begin_body_of, begin_param as begin_param_of, closed as closed_of, first_param as first_param_of, next_param as next_param_of, param as param_of};
 ghost use Rattle.ob_tree.proofs.ProgramParts.{add_param as add_param_of, are_all_named as are_all_named_of, are_named as are_named_of, is_first as is_first_of, params_of as params_tree_of};
 ghost use Rattle.ob_parser.specs.Steps.{Leads, Reaches};
-ghost use Rattle.ob_parser.specs.View.{declarator_of, listing_of, mark, owner_of};
+ghost use Rattle.ob_parser.specs.View.{declarator_of, definition_of, frames_of, listing_of, mark, owner_of};
 
 use crate::declarations::{add_name, copy_of, next_name};
 use crate::declarators::{after_dims, has_dims};
@@ -148,6 +149,30 @@ pub fn after_param(
     }
 }
 
+/// Behind the stars of a parameter that has no name.
+fn unnamed(
+    alloc: Global,
+    kind: &TokenKind,
+    listing: Listing,
+    first: u32,
+    line: u32,
+    spec: Spec,
+    stars: u32,
+) -> Result<Option<State>, NoMemory>
+    ensures { IfOk result (λ s. Reaches s (after_dims_of kind.now (OfParam (listing_of listing) first line (spec_tree spec) stars None first) DimTrees.NoDims)) }
+{
+    let head = Head::Param {
+        listing,
+        first,
+        line,
+        spec,
+        stars,
+        name: None,
+        at: first,
+    };
+    after_dims(alloc, kind, head, Vec::new(alloc))
+}
+
 /// Behind the stars of a parameter.
 pub fn param(
     alloc: Global,
@@ -182,18 +207,7 @@ pub fn param(
             };
             Ok(Some(State::Dims(head, Vec::new(alloc))))
         }
-        _ => {
-            let head = Head::Param {
-                listing,
-                first,
-                line,
-                spec,
-                stars,
-                name: None,
-                at: first,
-            };
-            after_dims(alloc, kind, head, Vec::new(alloc))
-        }
+        _ => unnamed(alloc, kind, listing, first, line, spec, stars),
     }
 }
 
@@ -227,6 +241,22 @@ fn is_first(names: &Vec<FileDecl>) -> bool
     ensures { result ≡ is_first_of (map file_tree names.now.items) }
 {
     names.len() == 0
+}
+
+/// The frames in the body of a function.
+fn body_frames(alloc: Global, place: Place, definition: Definition) -> Result<Vec<Frame>, NoMemory>
+    ensures { IfOk result (λ v. frames_of v.items
+        ≡ InBlock place.at place.line BlockTrees.NoItems ∷ (InBody (definition_of definition) ∷ [])) }
+{
+    let block = Frame::Block {
+        first: place.at,
+        line: place.line,
+        items: Vec::new(alloc),
+    };
+    let mut frames = Vec::new(alloc);
+    push_frame(&mut frames, Frame::Body(definition))?;
+    push_frame(&mut frames, block)?;
+    Ok(frames)
 }
 
 /// The body of a function begins, which only an external declaration has.
@@ -264,15 +294,7 @@ fn begin_body(
                 at,
                 params,
             };
-            let block = Frame::Block {
-                first: place.at,
-                line: place.line,
-                items: Vec::new(alloc),
-            };
-            let mut frames = Vec::new(alloc);
-            push_frame(&mut frames, Frame::Body(definition))?;
-            push_frame(&mut frames, block)?;
-            Ok(Some(State::Begin(frames)))
+            Ok(Some(State::Begin(body_frames(alloc, place, definition)?)))
         }
         Owner::Inner { .. } => Ok(None),
         Owner::Start { .. } => Ok(None),
