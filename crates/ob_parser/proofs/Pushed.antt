@@ -1,5 +1,5 @@
 -- The views of vectors with one item more, and of what is built from them.
-use Rattle.std.proofs.Common.{◌≡◌, ◌≢◌, ℕ, zero, suc, ◌+◌, ◌<◌, ◌≤◌, List, [], ◌∷◌, ◌++◌, length, get_or, drop, map, Bool, true, false, ◌&&◌, Option, Some, None, refl, sym, ◌∙◌, ap, subst, arith}
+use Rattle.std.proofs.Common.{◌≡◌, ◌≢◌, ℕ, zero, suc, ◌+◌, ◌<◌, List, [], ◌∷◌, ◌++◌, length, get_or, drop, map, Bool, true, false, ◌&&◌, Option, Some, None, refl, sym, ◌∙◌, ap, subst, arith}
 use Rattle.std.specs.Prelude.{Vec}
 use Rattle.std.proofs.lemmas.List.{at_drop_more}
 use Rattle.std.specs.declared.alloc.Global.{Global}
@@ -19,13 +19,13 @@ use Rattle.ob_tree.specs.declared.programs.Params.{Params}
 use Rattle.ob_tree.specs.declared.programs.FileDecl.{FileDecl}
 use Rattle.ob_tree.specs.declared.programs.FileDecl.TheVariants as file
 use Rattle.ob_tree.specs.Trees.{Mark, SpecTree, ObjTree, ObjTrees, DimTrees, InitTree, InitTrees}
-use Rattle.ob_tree.specs.Programs.{BlockTrees, ParamTree, ParamsTree}
+use Rattle.ob_tree.specs.Programs.{BlockTrees}
 use Rattle.ob_tree.specs.ExpressionView.{node_tree, obj_tree, obj_trees, held_init, held_length, dim_row, dim_trees, init_tree, init_row}
 use Rattle.ob_tree.specs.ProgramValid.{is_void_alone}
 use Rattle.ob_tree.specs.ProgramView.{stmt_node_tree, local_tree, param_tree, file_tree}
 use Rattle.ob_tree.proofs.ProgramStates as plain
 use Rattle.ob_tree.proofs.Frames.{add_obj}
-use Rattle.ob_tree.proofs.ProgramParts.{add_local, add_init, are_all_named, has_dims, has_lengths, has_items, is_first, is_tagged, objects, params_of}
+use Rattle.ob_tree.proofs.ProgramParts.{add_local, add_init, are_all_named, has_dims, has_lengths, has_items, is_first, is_tagged, objects}
 use Rattle.ob_exprs.proofs.Views.{objs_pushed}
 use Rattle.ob_parser.specs.declared.state.State.{State}
 use Rattle.ob_parser.specs.Steps.{Leads, Reaches, stepped}

@@ -1,4 +1,4 @@
-ghost use Rattle.std.specs.Prelude.{◌≡◌, ◌<◌, ◌++◌, ◌∷◌, [], Bool, IfOk, Some, map};
+ghost use Rattle.std.specs.Prelude.{◌≡◌, ◌<◌, ◌++◌, ◌∷◌, [], IfOk, Some, map};
 ghost use Rattle.ob_tree.specs.Programs.{ItemTree};
 ghost use Rattle.ob_tree.specs.ExpressionView.{obj_trees, spec_tree};
 ghost use Rattle.ob_tree.specs.ProgramView.{file_tree, item_tree, local_tree};
@@ -94,7 +94,7 @@ fn local(
     })
 }
 
-fn push_item(items: Vec<Item>, item: Item) -> Result<Vec<Item>, NoMemory>
+pub fn push_item(items: Vec<Item>, item: Item) -> Result<Vec<Item>, NoMemory>
     ensures { IfOk result (λ v. map item_tree v.items ≡ map item_tree items.items ++ item_tree item ∷ []) }
 {
     let mut items = items;

@@ -1,7 +1,6 @@
 ghost use Rattle.std.specs.Prelude.{◌≡◌, IfOk};
 ghost use Rattle.ob_tree.specs.Trees.{ObjTree};
 ghost use Rattle.ob_tree.specs.ExpressionView.{dim_trees, obj_tree};
-ghost use Rattle.ob_tree.specs.ProgramView.{param_tree};
 ghost use Rattle.ob_tree.proofs.ProgramMachine.{after_dims as after_dims_of, after_name as after_name_of, next_name as next_name_of, parameters as parameters_of};
 ghost use Rattle.ob_tree.proofs.ProgramParts.{add_name as add_name_of, bare as bare_of, has_dims as has_dims_of, has_lengths as has_lengths_of};
 ghost use Rattle.ob_parser.specs.Steps.{Reaches};

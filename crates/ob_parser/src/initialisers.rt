@@ -115,7 +115,7 @@ pub fn initialised(
 
 /// Whether an item stands in the list.
 #[tactic(auto, using(crate::proofs::Pushed::some_items, crate::proofs::Pushed::no_items))]
-fn has_items(items: &Vec<Init>) -> bool
+pub fn has_items(items: &Vec<Init>) -> bool
     ensures { result ≡ has_items_of (init_trees items.now.items) }
 {
     items.len() != 0
