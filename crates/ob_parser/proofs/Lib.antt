@@ -21,3 +21,4 @@ pub mod NewestPath
 pub mod Verdicts
 pub mod Follows
 pub mod Loop
+pub mod Pushed

@@ -9,9 +9,13 @@ pub use laws::{law_one_answer, law_some_answer};
 pub use parser::parse;
 
 mod declarations;
+mod declarators;
 mod finish;
+mod frames;
+mod initialisers;
 mod laws;
 mod newest;
+mod params;
 mod parser;
 mod read;
 mod state;
