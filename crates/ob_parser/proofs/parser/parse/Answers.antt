@@ -1,4 +1,4 @@
-use Rattle.std.proofs.Common.{Err, sym, subst}
+use Rattle.std.proofs.Common.{◌≡◌, Err, length, sym, subst, arith}
 use Rattle.std.proofs.lemmas.Result.{err_from_is_err_and}
 use Rattle.ob_tree.specs.declared.faults.SyntaxFault.TheVariants as fault
 use Rattle.ob_parser.specs.Answer.{ParsedProgram}
@@ -18,5 +18,6 @@ returns-in-Some c =
 pub returns-in-None : goal.returns-in-None
 returns-in-None c =
     let ts = c.args.tokens.now.items in
-    subst (λ n. ParsedProgram ts (Err (fault.NoTree n))) (sym c.len.ensures)
+    let e : c.len.result ≡ length ts = omega (arith, c.args.tokens.now.ok.0) in
+    subst (λ n. ParsedProgram ts (Err (fault.NoTree n))) (sym e)
     (parsed-open ts c.requires.of_source (state_of c.in_ok-state.state) c.in_ok-state.ensures c.in_ok-program.field-0 c.in_ok-program.ensures c.in-None.is)
