@@ -23,11 +23,7 @@ fn closes(frames: &Vec<Frame>, ifs: bool) -> bool
 }
 
 /// Gives the innermost frame its last part.
-fn close_top(
-    alloc: Global,
-    stmt: Stmt,
-    frames: Vec<Frame>,
-) -> Result<(Stmt, Vec<Frame>), NoMemory>
+fn close_top(alloc: Global, stmt: Stmt, frames: Vec<Frame>) -> Result<(Stmt, Vec<Frame>), NoMemory>
     ensures { IfOk result (λ r. (stmt_tree r.0, frames_of r.1.items) ≡ closed_top (stmt_tree stmt) (frames_of frames.items)) }
 {
     let mut rest = frames;
@@ -35,22 +31,26 @@ fn close_top(
         Some(Frame::If { first, line, test }) => {
             Ok((if_alone(alloc, first, line, test, stmt)?, rest))
         }
-        Some(Frame::Else {
-            first,
-            line,
-            test,
-            then,
-        }) => Ok((if_else(alloc, first, line, test, then, stmt)?, rest)),
+        Some(
+            Frame::Else {
+                first,
+                line,
+                test,
+                then,
+            },
+        ) => Ok((if_else(alloc, first, line, test, then, stmt)?, rest)),
         Some(Frame::While { first, line, test }) => {
             Ok((while_loop(alloc, first, line, test, stmt)?, rest))
         }
-        Some(Frame::For {
-            first,
-            line,
-            start,
-            test,
-            next,
-        }) => Ok((for_loop(alloc, first, line, start, test, next, stmt)?, rest)),
+        Some(
+            Frame::For {
+                first,
+                line,
+                start,
+                test,
+                next,
+            },
+        ) => Ok((for_loop(alloc, first, line, start, test, next, stmt)?, rest)),
         Some(other) => {
             push_frame(&mut rest, other)?;
             Ok((stmt, rest))

@@ -71,11 +71,7 @@ fn begins_statement(kind: &TokenKind) -> bool
 }
 
 /// Behind the first word of a statement.
-fn word_begun(
-    word: Keyword,
-    place: Place,
-    frames: Vec<Frame>,
-) -> Result<Option<State>, NoMemory>
+fn word_begun(word: Keyword, place: Place, frames: Vec<Frame>) -> Result<Option<State>, NoMemory>
     ensures { IfOk result (λ o. Reaches o (word_begun_of (mark place) word (frames_of frames.items))) }
 {
     let first = place.at;
@@ -240,11 +236,9 @@ pub fn begin(
 {
     let mut frames = frames;
     match pop_frame(&mut frames) {
-        Some(Frame::Block {
-            first,
-            line,
-            items,
-        }) => block_item(alloc, kind, place, first, line, items, frames),
+        Some(Frame::Block { first, line, items }) => block_item(
+            alloc, kind, place, first, line, items, frames,
+        ),
         Some(other) => {
             push_frame(&mut frames, other)?;
             statement(alloc, kind, place, frames)

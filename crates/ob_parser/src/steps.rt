@@ -28,12 +28,7 @@ fn at_open(kind: &TokenKind, state: State) -> Option<State>
 
 /// What the token at `place` leads to.
 #[tactic(auto, using(crate::proofs::Pushed::reaches_leads, crate::proofs::Stars::declare_few, crate::proofs::Stars::param_few))]
-pub fn step(
-    alloc: Global,
-    kind: &TokenKind,
-    place: Place,
-    state: State,
-) -> Result<Step, NoMemory>
+pub fn step(alloc: Global, kind: &TokenKind, place: Place, state: State) -> Result<Step, NoMemory>
     requires { load (state_of state) ≤ 256 }
     ensures { IfOk result (λ s. Leads (mark place) kind.now s (step_of (mark place) kind.now (state_of state))) }
 {

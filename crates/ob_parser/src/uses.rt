@@ -133,18 +133,12 @@ pub fn used(
             first,
             line,
             frames,
-        } => Ok(at_semi(
-            kind,
-            State::Done(expression(first, line, expr), frames),
-        )),
+        } => Ok(at_semi(kind, State::Done(expression(first, line, expr), frames))),
         Use::Return {
             first,
             line,
             frames,
-        } => Ok(at_semi(
-            kind,
-            State::Done(give_back(first, line, expr), frames),
-        )),
+        } => Ok(at_semi(kind, State::Done(give_back(first, line, expr), frames))),
         Use::ForStart {
             first,
             line,
@@ -273,10 +267,8 @@ fn may_lack(kind: &TokenKind, use_: &Use) -> bool
     ensures { result ≡ goes_on (used_of kind.now (use_of use_.now) None) }
 {
     match use_ {
-        Use::Statement { .. }
-        | Use::Return { .. }
-        | Use::ForStart { .. }
-        | Use::ForTest { .. } => is_semi(kind),
+        Use::Statement { .. } | Use::Return { .. } | Use::ForStart { .. } | Use::ForTest { .. } =>
+            is_semi(kind),
         Use::ForNext { .. } => is_close(kind),
         Use::Length { head, dims } => may_lack_length(kind, head, dims),
         Use::Item { target, lists } => may_lack_item(kind, target, lists),
