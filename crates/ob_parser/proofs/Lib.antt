@@ -22,3 +22,7 @@ pub mod Verdicts
 pub mod Follows
 pub mod Loop
 pub mod Pushed
+pub mod Turns
+pub mod Blocks
+pub mod LeftOut
+pub mod Stars

@@ -3,3 +3,4 @@ pub mod Answer
 pub mod View
 pub mod Steps
 pub mod Reads
+pub mod Statements

@@ -8,6 +8,7 @@
 pub use laws::{law_one_answer, law_some_answer};
 pub use parser::parse;
 
+mod closing;
 mod declarations;
 mod declarators;
 mod finish;
@@ -15,9 +16,11 @@ mod frames;
 mod initialisers;
 mod laws;
 mod newest;
+mod nodes;
 mod params;
 mod parser;
 mod read;
 mod state;
 mod statements;
 mod steps;
+mod uses;

@@ -1,236 +1,165 @@
 -- Each clause of the program, from what the words came to and how that was told.
-use Rattle.std.proofs.Common.{◌≡◌, ◌≢◌, ℕ, ◌<◌, ◌≤◌, List, length, Option, Some, None, inl, inr, ◌⊎◌, true, refl, sym, ap, ◌∙◌, subst, arith}
-use Rattle.std.proofs.lemmas.Bool.{false≢true}
-use Rattle.std.specs.Prelude.{IsSomeAnd, IsSome, IfSome, is_some}
-use Rattle.std.proofs.lemmas.Bool.Decides.{nat_tests}
+use Rattle.std.proofs.Common.{◌≡◌, ◌≢◌, ℕ, ◌<◌, ◌≤◌, List, length, Option, None, inl, inr, ◌⊎◌, sym, ap, ◌∙◌, subst, arith}
 use Rattle.std.specs.Io.KnownBytes.{append_known}
 use Rattle.ob_base.specs.Faults.{NoFault, Rose}
-use Rattle.ob_base.specs.Folder.{Files, IsMissing}
-use Rattle.ob_base.specs.Sink.{TakesPrefix}
-use Rattle.ob_words.specs.Conversion.{residue}
-use Rattle.ob_tree.specs.declared.first.First.{First}
-use Rattle.ob_tree.specs.First.{IsFirstText}
-use Rattle.ob_machine.specs.First.{printed}
+use Rattle.ob_base.specs.Folder.{Files}
+use Rattle.ob_tree.specs.declared.faults.LexKind.{LexKind}
+use Rattle.ob_tree.specs.declared.faults.SyntaxKind.TheVariants.{NoTree, TooDeep}
 use Rattle.ob_program.specs.declared.answer.Answer.{Answer}
-use Rattle.ob_program.specs.declared.answer.Answer.TheVariants.{Ended, Usage, FileFault, FileLong, NotYet, WriteFault, NoMemory}
-use Rattle.ob_program.specs.Answer.{Output, IsUntouched, IsTold, JobGives, NameGives, IsToldLong, LoadGives, line_of, status_of}
+use Rattle.ob_program.specs.declared.answer.Answer.TheVariants.{Usage, FileFault, FileLong, Refused, NoMemory}
+use Rattle.ob_program.specs.declared.refusal.Position.{Position}
+use Rattle.ob_program.specs.declared.refusal.Refusal.{Refusal}
+use Rattle.ob_program.specs.declared.refusal.Refusal.TheVariants.{Lex, Syntax, NotYet}
+use Rattle.ob_program.specs.Answer.{IsTold, JobGives, Output, line_of, status_of}
+use Rattle.ob_program.specs.FirstForm.{FirstForm, printed}
 use Rattle.ob_program.specs.Job.{job_of}
-use Rattle.ob_program.specs.Lines.{usage_line, file_fault_line, file_long_line, not_yet_line, refusal_line}
-use Rattle.ob_program.specs.Run.{GivesWay, HasFile, IsLong, IsOther, IsSource, NamesFile, NamesNone, Ran, TakesPrefixOfLine, TellsFiles, most_source_bytes}
-use Rattle.ob_program.proofs.Files.{named, names_file, some_and_of}
-use Rattle.ob_program.proofs.Clauses.{Fits, Written, JobCame, LinePrefix, named_came, runs, out_prefix, long_line, other_line, source_line, empty_prefix, told_prefix, status_is, ended_small, is_usage, is_file_fault, is_file_long, is_not_yet, job_came}
+use Rattle.ob_program.specs.Run.{GivesWay, HasPlace, IsDiagnosed, IsLong, IsRefused, IsSource, NamesNone, TakesPrefixOfLine, TellsFiles, TellsPlace, file_name, most_source_bytes}
+use Rattle.ob_program.specs.Sources.{Outcome, refusal_status}
+use Rattle.ob_program.proofs.Came.{FileCame, JobCame, Ways, job_came, named_came}
+use Rattle.ob_program.proofs.Clauses.{Fits, IsWhole, LinePrefix, Written, is_file_fault, is_file_long, is_refused, is_usage, long_line, no_way, out_prefix, refused_line, refused_or, runs, source_line, told_prefix, whole_of, whole_or}
+use Rattle.ob_program.proofs.Files.{Named, named}
+use Rattle.ob_program.proofs.Reasons.{IsKnown, IsNoRun, RanSo, Told, deep_of, failed_prefix, fault_of, given, lex_of, loaded_of, long_of, missing_of, missing_prefix, no_other_of, no_plain_place, no_run, not_plain, not_yet_of, nothing_of, ran_of, syntax_of, told_of, untouched_of, usage_of, usage_prefix}
 
 -- an answer that the words came to, and that was told
-pub record Came (words : List (List ℕ)) (files : Option Files) (before now status : ℕ) (o e : Output) : Type 0 where
+pub record Came (words : List (List ℕ)) (files : Option Files) (before now status n : ℕ) (o e : Output) : Type 0 where
   pub answer : Answer
-  pub gives : JobGives files before now (job_of words) answer o
-  pub told : IsTold answer status e
+  pub gives : JobGives files before now (job_of words) answer n o
+  pub told : IsTold (file_name words) answer status e
 
--- the two ways in which the words come to an answer
-abbrev pub Ways : List (List ℕ) → Option Files → ℕ → ℕ → Answer → Output → Type 0
-Ways words files before now a o = ((job_of words ≡ None) × ((a ≡ Usage) × IsUntouched o)) ⊎ JobCame words files before now a o
+when_by : (name : List ℕ) (status : ℕ) (e : Output) (a : Answer) (r : Refusal) → (a ≡ Refused r) ⊎ (a ≡ NoMemory) → IsWhole name a status e ⊎ GivesWay status → (status ≡ refusal_status r) ⊎ GivesWay status
+when_by name status e a r is (inr g) = inr g
+when_by name status e a r (inl is) (inl w) = inl (w.0 ∙ ap status_of is)
+when_by name status e a r (inr is) (inl w) = inr (inr (w.0 ∙ ap status_of is))
 
-given : (words : List (List ℕ)) (files : Option Files) (before now : ℕ) (o : Output) (a : Answer) → Ways words files before now a o → (b : Answer) → a ≡ b → b ≢ Usage → JobCame words files before now b o
-given words files before now o a (inl none) b is not = absurd (not (sym is ∙ none.1.0))
-given words files before now o a (inr came) b is not = subst (λ x. JobCame words files before now x o) is came
+module _ {words : List (List ℕ)} {files : Option Files} {before now status n : ℕ} {o e : Output} where
+  ways : (c : Came words files before now status n o e) → Ways words files before now c.answer n o
+  ways c = job_came words files before now c.answer n o c.gives
 
-usage_of : (words : List (List ℕ)) (files : Option Files) (before now : ℕ) (o : Output) (a : Answer) → Ways words files before now a o → a ≡ Usage → job_of words ≡ None
-usage_of words files before now o a (inl none) is = none.0
-usage_of words files before now o a (inr came) is = absurd (subst (λ x. NameGives files before now came.name x o) is came.gives)
+  came : (c : Came words files before now status n o e) (P : List ℕ → Type 0) (f : Named (job_of words) files P) → FileCame f.bytes before now c.answer n o
+  came c P f = named_came words files before now P c.answer n o f c.gives
 
-missing_of : (words : List (List ℕ)) (files : Option Files) (before now : ℕ) (name : List ℕ) → job_of words ≡ Some name → Rose before now ⊎ (IsMissing files name × (now ≡ before)) → Rose before now ⊎ NamesNone words files
-missing_of words files before now name job_is (inl rose) = inl rose
-missing_of words files before now name job_is (inr missing) = inr (some_and_of (job_of words) name (IsMissing files) job_is missing.0)
+  whole : (c : Came words files before now status n o e) (code : ℕ) → status ≡ code → code ≢ 143 → code ≢ 144 → IsWhole (file_name words) c.answer status e
+  whole c code is m k = whole_of (file_name words) c.answer status e c.told (no_way status code is m k)
 
-long_of : (words : List (List ℕ)) (files : Option Files) (name : List ℕ) → job_of words ≡ Some name → IsToldLong files name → TellsFiles files → IsLong words files
-long_of words None name job_is long tells = absurd tells
-long_of words (Some known) name job_is long tells = some_and_of (job_of words) name (λ n. HasFile (Some known) n (λ bytes. most_source_bytes < length bytes)) job_is long
+  came_as : (c : Came words files before now status n o e) (b : Answer) → c.answer ≡ b → b ≢ Usage → JobCame words files before now b n o
+  came_as c b is not = given words files before now n o c.answer (ways c) b is not
 
-loaded_of : (words : List (List ℕ)) (files : Option Files) (name : List ℕ) (a : Answer) (o : Output) → job_of words ≡ Some name → TellsFiles files → (l : LoadGives files name a o) → (P : List ℕ → Type 0) → P l.0 → NamesFile words files P
-loaded_of words None name a o job_is tells l P holds = absurd tells
-loaded_of words (Some known) name a o job_is tells l P holds =
-    names_file words (Some known) P (record { name = name; job_is = job_is; known = known; files_is = refl; bytes = l.0; file_is = l.1.0; holds = holds })
+  pub runs_promise : Came words files before now status n o e → (f : FirstForm) → IsSource words files f → NoFault before now → NoFault o.faults_before o.faults_now → NoFault e.faults_before e.faults_now → status ≢ 144 → Written f status o
+  runs_promise c f source nf nk ne n144 =
+      let P : List ℕ → Type 0 = Fits (Outcome.First f) in
+      let file = named words files P source in
+      runs f file.bytes (file_name words) before now status c.answer n o e file.holds (came c P file) c.told nf nk ne n144
 
-write_fault_of : (words : List (List ℕ)) (files : Option Files) (before now : ℕ) (o : Output) (a : Answer) → Ways words files before now a o → status_of a ≡ 143 → Rose o.faults_before o.faults_now
-write_fault_of words files before now o (Ended number) came is = let small = ended_small number in absurd (omega (arith, is))
-write_fault_of words files before now o Usage came is = absurd (omega (arith, is))
-write_fault_of words files before now o FileFault came is = absurd (omega (arith, is))
-write_fault_of words files before now o FileLong came is = absurd (omega (arith, is))
-write_fault_of words files before now o NotYet came is = absurd (omega (arith, is))
-write_fault_of words files before now o NoMemory came is = absurd (omega (arith, is))
-write_fault_of words files before now o WriteFault (inl none) is = let e : ◌≡◌ {A = Answer} WriteFault Usage = none.1.0 in cc
-write_fault_of words files before now o WriteFault (inr came) is = came.gives.1.1.2.1.1.0
+  pub ran_promise : Came words files before now status n o e → status < 128 → TellsFiles files → RanSo words files status o
+  ran_promise c small tells =
+      let w = whole_of (file_name words) c.answer status e c.told (λ g. small_way g) in
+      ran_of words files before now status n o c.answer (ways c) w.0 small tells
+    where
+      small_way : GivesWay status → ⊥
+      small_way (inl is) = omega (arith, is, small)
+      small_way (inr is) = omega (arith, is, small)
 
-fault_of : (words : List (List ℕ)) (files : Option Files) (before now status : ℕ) (o e : Output) (a : Answer) → Ways words files before now a o → IsTold a status e → status ≡ 143 → Rose o.faults_before o.faults_now ⊎ Rose e.faults_before e.faults_now
-fault_of words files before now status o e a came (inl t) is = inl (write_fault_of words files before now o a came (sym t.0 ∙ is))
-fault_of words files before now status o e a came (inr t) is = inr t.1.0
+  pub usage_only_promise : Came words files before now status n o e → status ≡ 128 → job_of words ≡ None
+  usage_only_promise c is =
+      usage_of words files before now n o c.answer (ways c) (is_usage c.answer (sym (whole c 128 is (λ q. omega (arith, q)) (λ q. omega (arith, q))).0 ∙ is))
 
--- a status below 128 has no line
-no_line : (status : ℕ) → status < 128 → refusal_line status ≡ None
-no_line status small = grind (arith, nat_tests)
-
--- which statuses there are
-kind_of : (a : Answer) (status : ℕ) → status ≡ status_of a → (status < 128) ⊎ (IsSome (refusal_line status) ⊎ GivesWay status)
-kind_of (Ended number) status is = inl (subst (λ s. s < 128) (sym is) (ended_small number))
-kind_of Usage status is = inr (inl (subst (λ s. IsSome (refusal_line s)) (sym is) refl))
-kind_of FileFault status is = inr (inl (subst (λ s. IsSome (refusal_line s)) (sym is) refl))
-kind_of FileLong status is = inr (inl (subst (λ s. IsSome (refusal_line s)) (sym is) refl))
-kind_of NotYet status is = inr (inl (subst (λ s. IsSome (refusal_line s)) (sym is) refl))
-kind_of WriteFault status is = inr (inr (inl is))
-kind_of NoMemory status is = inr (inr (inr is))
-
-no_other_of : (a : Answer) (status : ℕ) (e : Output) → IsTold a status e → (status < 128) ⊎ (IsSome (refusal_line status) ⊎ GivesWay status)
-no_other_of a status e (inl t) = kind_of a status t.0
-no_other_of a status e (inr t) = inr (inr (inl t.0))
-
--- what a refusal leaves
-abbrev pub Refused : ℕ → Output → Output → Type 0
-Refused status o e = IfSome (refusal_line status) (λ line. (e.taken_now ≡ append_known e.taken_before line) × (o.taken_now ≡ o.taken_before))
-
-refused_by : (status : ℕ) (line : List ℕ) (o e : Output) → refusal_line status ≡ Some line → e.taken_now ≡ append_known e.taken_before line → o.taken_now ≡ o.taken_before → Refused status o e
-refused_by status line o e is p q = subst (λ l. IfSome l (λ x. (e.taken_now ≡ append_known e.taken_before x) × (o.taken_now ≡ o.taken_before))) (sym is) (p, q)
-
-not_refused : (status : ℕ) (o e : Output) → refusal_line status ≡ None → Refused status o e
-not_refused status o e is = subst (λ l. IfSome l (λ x. (e.taken_now ≡ append_known e.taken_before x) × (o.taken_now ≡ o.taken_before))) (sym is) tt
-
-untouched_of : (words : List (List ℕ)) (files : Option Files) (before now : ℕ) (o : Output) (a : Answer) → Ways words files before now a o → IsSome (refusal_line (status_of a)) → IsUntouched o
-untouched_of words files before now o a (inl none) some = none.1.1
-untouched_of words files before now o (Ended number) (inr came) some = let e : None ≡ refusal_line (residue 128 number) = sym (no_line (residue 128 number) (ended_small number)) in absurd (false≢true (subst (λ l. is_some l ≡ true) (sym e) some))
-untouched_of words files before now o Usage (inr came) some = absurd came.gives
-untouched_of words files before now o FileFault (inr came) some = came.gives.1
-untouched_of words files before now o FileLong (inr came) some = came.gives.2
-untouched_of words files before now o NotYet (inr came) some = came.gives.1.1.2.1
-untouched_of words files before now o WriteFault (inr came) some = absurd (false≢true some)
-untouched_of words files before now o NoMemory (inr came) some = came.gives.1
-
-told_of : (words : List (List ℕ)) (files : Option Files) (before now status : ℕ) (o e : Output) (a : Answer) → Ways words files before now a o → IsTold a status e → Refused status o e
-told_of words files before now status o e a came (inr t) = not_refused status o e (ap refusal_line t.0)
-told_of words files before now status o e (Ended number) came (inl t) = not_refused status o e (ap refusal_line t.0 ∙ no_line (residue 128 number) (ended_small number))
-told_of words files before now status o e WriteFault came (inl t) = not_refused status o e (ap refusal_line t.0)
-told_of words files before now status o e NoMemory came (inl t) = not_refused status o e (ap refusal_line t.0)
-told_of words files before now status o e Usage came (inl t) = refused_by status usage_line o e (ap refusal_line t.0) t.1.0 (untouched_of words files before now o Usage came refl).taken
-told_of words files before now status o e FileFault came (inl t) = refused_by status file_fault_line o e (ap refusal_line t.0) t.1.0 (untouched_of words files before now o FileFault came refl).taken
-told_of words files before now status o e FileLong came (inl t) = refused_by status file_long_line o e (ap refusal_line t.0) t.1.0 (untouched_of words files before now o FileLong came refl).taken
-told_of words files before now status o e NotYet came (inl t) = refused_by status not_yet_line o e (ap refusal_line t.0) t.1.0 (untouched_of words files before now o NotYet came refl).taken
-
-nothing_of : (words : List (List ℕ)) (files : Option Files) (before now : ℕ) (o : Output) (a : Answer) → Ways words files before now a o → TellsFiles files → ((p : First) → ¬ IsSource words files p) → o.taken_now ≡ o.taken_before
-nothing_of words files before now o a (inl none) tells not = none.1.1.taken
-nothing_of words files before now o Usage (inr came) tells not = absurd came.gives
-nothing_of words files before now o FileFault (inr came) tells not = came.gives.1.taken
-nothing_of words files before now o FileLong (inr came) tells not = came.gives.2.taken
-nothing_of words files before now o NotYet (inr came) tells not = came.gives.1.1.2.1.taken
-nothing_of words files before now o NoMemory (inr came) tells not = came.gives.1.taken
-nothing_of words files before now o WriteFault (inr came) tells not =
-    let l = came.gives.1 in
-    absurd (not l.1.2.0 (loaded_of words files came.name WriteFault o came.job_is tells l (λ bytes. Fits l.1.2.0 bytes) (l.1.1, l.1.2.1.0)))
-nothing_of words files before now o (Ended number) (inr came) tells not =
-    let l = came.gives.1 in
-    absurd (not l.1.2.0 (loaded_of words files came.name (Ended number) o came.job_is tells l (λ bytes. Fits l.1.2.0 bytes) (l.1.1, l.1.2.1.0)))
-
--- a run that ended was that of a source
-ran_of : (words : List (List ℕ)) (files : Option Files) (before now status : ℕ) (o : Output) (a : Answer) → Ways words files before now a o → status ≡ status_of a → status < 128 → TellsFiles files → Ran words files status o.taken_before o.taken_now
-ran_of words files before now status o a (inl none) is small tells = let bad : status ≡ 128 = is ∙ ap status_of none.1.0 in absurd (omega arith)
-ran_of words files before now status o Usage (inr came) is small tells = absurd came.gives
-ran_of words files before now status o FileFault (inr came) is small tells = absurd (omega arith)
-ran_of words files before now status o FileLong (inr came) is small tells = absurd (omega arith)
-ran_of words files before now status o NotYet (inr came) is small tells = absurd (omega arith)
-ran_of words files before now status o NoMemory (inr came) is small tells = absurd (omega arith)
-ran_of words files before now status o WriteFault (inr came) is small tells = absurd (omega arith)
-ran_of words files before now status o (Ended number) (inr came) is small tells =
-    let l = came.gives.1 in
-    let r = l.1.2.1.1 in
-    record {
-      source = l.1.2.0;
-      is_source = loaded_of words files came.name (Ended number) o came.job_is tells l (λ bytes. Fits l.1.2.0 bytes) (l.1.1, l.1.2.1.0);
-      status_is = is ∙ ap (residue 128) r.0;
-      written = r.1;
-    }
-
-ran_told : (words : List (List ℕ)) (files : Option Files) (before now status : ℕ) (o e : Output) (a : Answer) → Ways words files before now a o → IsTold a status e → status < 128 → TellsFiles files → Ran words files status o.taken_before o.taken_now
-ran_told words files before now status o e a came (inl t) small tells = ran_of words files before now status o a came t.0 small tells
-ran_told words files before now status o e a came (inr t) small tells = let is : status ≡ 143 = t.0 in absurd (omega arith)
-
-usage_prefix : (words : List (List ℕ)) (files : Option Files) (before now : ℕ) (o e : Output) (a : Answer) → Ways words files before now a o → job_of words ≡ None → LinePrefix e (line_of a) → LinePrefix e usage_line
-usage_prefix words files before now o e a (inl none) is p = subst (λ x. LinePrefix e (line_of x)) none.1.0 p
-usage_prefix words files before now o e a (inr came) is p = let bad : ◌≡◌ {A = Option (List ℕ)} None (Some came.name) = sym is ∙ came.job_is in cc
-
--- no file of that name
-gone : (files : Option Files) (name : List ℕ) (a : Answer) (o : Output) → IsMissing files name → LoadGives files name a o → ⊥
-gone None name a o missing l = missing
-gone (Some known) name a o missing l = let bad : ◌≡◌ {A = Option (List ℕ)} None (Some l.0) = sym missing ∙ l.1.0 in cc
-
-gone_long : (files : Option Files) (name : List ℕ) → IsMissing files name → IsToldLong files name → ⊥
-gone_long None name missing long = missing
-gone_long (Some known) name missing long = subst (λ f. IsSomeAnd f (λ bytes. most_source_bytes < length bytes)) missing long
-
-missing_prefix : (words : List (List ℕ)) (files : Option Files) (before now : ℕ) (o e : Output) (a : Answer) → Ways words files before now a o → NamesNone words files → LinePrefix e (line_of a) → LinePrefix e file_fault_line
-missing_prefix words files before now o e a (inl none) missing p = absurd (subst (λ j. IsSomeAnd j (IsMissing files)) none.0 missing)
-missing_prefix words files before now o e Usage (inr came) missing p = absurd came.gives
-missing_prefix words files before now o e FileFault (inr came) missing p = p
-missing_prefix words files before now o e NoMemory (inr came) missing p = empty_prefix e.taken_before e.taken_now e.tally_before e.tally_now file_fault_line p
-missing_prefix words files before now o e FileLong (inr came) missing p = absurd (gone_long files came.name (subst (λ j. IsSomeAnd j (IsMissing files)) came.job_is missing) came.gives.0)
-missing_prefix words files before now o e NotYet (inr came) missing p = absurd (gone files came.name NotYet o (subst (λ j. IsSomeAnd j (IsMissing files)) came.job_is missing) came.gives.1)
-missing_prefix words files before now o e WriteFault (inr came) missing p = absurd (gone files came.name WriteFault o (subst (λ j. IsSomeAnd j (IsMissing files)) came.job_is missing) came.gives.1)
-missing_prefix words files before now o e (Ended number) (inr came) missing p = absurd (gone files came.name (Ended number) o (subst (λ j. IsSomeAnd j (IsMissing files)) came.job_is missing) came.gives.1)
-
-module _ {words : List (List ℕ)} {files : Option Files} {before now status : ℕ} {o e : Output} where
-  pub runs_promise : Came words files before now status o e → (p : First) → IsSource words files p → NoFault before now → NoFault o.faults_before o.faults_now → NoFault e.faults_before e.faults_now → status ≢ 144 → Written p status o
-  runs_promise c p source nf nk ne n144 =
-      let n = named words files (λ bytes. Fits p bytes) source in
-      runs p n.bytes before now status c.answer o e n.holds (named_came words files before now (λ bytes. Fits p bytes) c.answer o n c.gives) c.told nf nk ne n144
-
-  pub out_prefix_promise : Came words files before now status o e → (p : First) → IsSource words files p → TakesPrefix o.taken_before o.taken_now o.tally_before o.tally_now (printed p)
-  out_prefix_promise c p source =
-      let n = named words files (λ bytes. Fits p bytes) source in
-      out_prefix p n.bytes before now c.answer o n.holds (named_came words files before now (λ bytes. Fits p bytes) c.answer o n c.gives)
-
-  ways : (c : Came words files before now status o e) → Ways words files before now c.answer o
-  ways c = job_came words files before now c.answer o c.gives
-
-  came_as : (c : Came words files before now status o e) → (b : Answer) → c.answer ≡ b → b ≢ Usage → JobCame words files before now b o
-  came_as c b is not = given words files before now o c.answer (ways c) b is not
-
-  pub usage_only_promise : Came words files before now status o e → status ≡ 128 → job_of words ≡ None
-  usage_only_promise c is = usage_of words files before now o c.answer (ways c) (is_usage c.answer (status_is c.answer status e c.told 128 is (λ q. absurd (omega (arith, q)))))
-
-  pub file_fault_promise : Came words files before now status o e → status ≡ 129 → Rose before now ⊎ NamesNone words files
+  pub file_fault_promise : Came words files before now status n o e → status ≡ 129 → Rose before now ⊎ NamesNone words files
   file_fault_promise c is =
-      let job = came_as c FileFault (is_file_fault c.answer (status_is c.answer status e c.told 129 is (λ q. absurd (omega (arith, q))))) (λ q. cc) in
+      let job = came_as c FileFault (is_file_fault c.answer (sym (whole c 129 is (λ q. omega (arith, q)) (λ q. omega (arith, q))).0 ∙ is)) (λ q. cc) in
       missing_of words files before now job.name job.job_is job.gives.0
 
-  pub file_long_only_promise : Came words files before now status o e → status ≡ 130 → TellsFiles files → IsLong words files
+  pub file_long_only_promise : Came words files before now status n o e → status ≡ 130 → TellsFiles files → IsLong words files
   file_long_only_promise c is tells =
-      let job = came_as c FileLong (is_file_long c.answer (status_is c.answer status e c.told 130 is (λ q. absurd (omega (arith, q))))) (λ q. cc) in
+      let job = came_as c FileLong (is_file_long c.answer (sym (whole c 130 is (λ q. omega (arith, q)) (λ q. omega (arith, q))).0 ∙ is)) (λ q. cc) in
       long_of words files job.name job.job_is job.gives.0 tells
 
-  pub not_yet_only_promise : Came words files before now status o e → status ≡ 145 → TellsFiles files → IsOther words files
+  -- a refusal of the told text, and its line
+  only : (c : Came words files before now status n o e) (code : ℕ) → status ≡ code → 130 < code → code ≢ 143 → code ≢ 144 → TellsFiles files → (r : Refusal) × (refusal_status r ≡ code) × IsDiagnosed words files r e.taken_before e.taken_now
+  only c code is large m k tells =
+      let w = whole c code is m k in
+      let r = is_refused c.answer code (sym w.0 ∙ is) (not_plain code large m k) in
+      let job = came_as c (Refused r.0) r.1 (λ q. cc) in
+      let l = job.gives.1 in (
+        r.0,
+        ap status_of (sym r.1) ∙ sym w.0 ∙ is,
+        record {
+          refused = loaded_of words files job.name (Refused r.0) n o job.job_is tells l (Fits (Outcome.Refused r.0)) (l.short, l.give.0);
+          told = w.1 ∙ ap (λ a. append_known e.taken_before (line_of (file_name words) a)) r.1;
+        },
+      )
+
+  pub lex_only_promise : Came words files before now status n o e → status ≡ 131 → TellsFiles files → (kind : LexKind) × (position : Position) × IsDiagnosed words files (Lex kind position) e.taken_before e.taken_now
+  lex_only_promise c is tells =
+      let d = only c 131 is (omega arith) (λ q. omega (arith, q)) (λ q. omega (arith, q)) tells in
+      let r = lex_of d.0 d.1 in
+      (r.0, r.1, subst (λ x. IsDiagnosed words files x e.taken_before e.taken_now) r.2 d.2)
+
+  pub syntax_only_promise : Came words files before now status n o e → status ≡ 132 → TellsFiles files → (position : Position) × IsDiagnosed words files (Syntax NoTree position) e.taken_before e.taken_now
+  syntax_only_promise c is tells =
+      let d = only c 132 is (omega arith) (λ q. omega (arith, q)) (λ q. omega (arith, q)) tells in
+      let r = syntax_of d.0 d.1 in
+      (r.0, subst (λ x. IsDiagnosed words files x e.taken_before e.taken_now) r.1 d.2)
+
+  pub deep_only_promise : Came words files before now status n o e → status ≡ 134 → TellsFiles files → (position : Position) × IsDiagnosed words files (Syntax TooDeep position) e.taken_before e.taken_now
+  deep_only_promise c is tells =
+      let d = only c 134 is (omega arith) (λ q. omega (arith, q)) (λ q. omega (arith, q)) tells in
+      let r = deep_of d.0 d.1 in
+      (r.0, subst (λ x. IsDiagnosed words files x e.taken_before e.taken_now) r.1 d.2)
+
+  pub not_yet_only_promise : Came words files before now status n o e → status ≡ 145 → TellsFiles files → IsRefused words files NotYet
   not_yet_only_promise c is tells =
-      let job = came_as c NotYet (is_not_yet c.answer (status_is c.answer status e c.told 145 is (λ q. absurd (omega (arith, q))))) (λ q. cc) in
-      let l = job.gives.1 in
-      loaded_of words files job.name NotYet o job.job_is tells l (λ bytes. (length bytes ≤ most_source_bytes) × ((p : First) → ¬ IsFirstText p bytes)) (l.1.1, l.1.2.0)
+      let d = only c 145 is (omega arith) (λ q. omega (arith, q)) (λ q. omega (arith, q)) tells in
+      subst (IsRefused words files) (not_yet_of d.0 d.1) d.2.refused
 
-  pub write_fault_promise : Came words files before now status o e → status ≡ 143 → Rose o.faults_before o.faults_now ⊎ Rose e.faults_before e.faults_now
-  write_fault_promise c is = fault_of words files before now status o e c.answer (ways c) c.told is
+  pub when_promise : Came words files before now status n o e → (r : Refusal) → IsRefused words files r → NoFault before now → (status ≡ refusal_status r) ⊎ GivesWay status
+  when_promise c r refused nf =
+      let P : List ℕ → Type 0 = Fits (Outcome.Refused r) in
+      let file = named words files P refused in
+      when_by (file_name words) status e c.answer r (refused_or r file.bytes before now c.answer n o file.holds (came c P file) nf) (whole_or (file_name words) c.answer status e c.told)
 
-  pub no_other_promise : Came words files before now status o e → (status < 128) ⊎ (IsSome (refusal_line status) ⊎ GivesWay status)
-  no_other_promise c = no_other_of c.answer status e c.told
+  pub write_fault_promise : Came words files before now status n o e → status ≡ 143 → Rose o.faults_before o.faults_now ⊎ Rose e.faults_before e.faults_now
+  write_fault_promise c is = fault_of words files before now status (file_name words) n o e c.answer (ways c) c.told is
 
-  pub told_promise : Came words files before now status o e → Refused status o e
-  told_promise c = told_of words files before now status o e c.answer (ways c) c.told
+  pub no_other_promise : Came words files before now status n o e → IsKnown status
+  no_other_promise c = no_other_of (file_name words) c.answer status e c.told
 
-  pub out_nothing_promise : Came words files before now status o e → TellsFiles files → ((p : First) → ¬ IsSource words files p) → o.taken_now ≡ o.taken_before
-  out_nothing_promise c tells not = nothing_of words files before now o c.answer (ways c) tells not
+  pub told_promise : Came words files before now status n o e → Told status o e
+  told_promise c = told_of words files before now status (file_name words) n o e c.answer (ways c) c.told
 
-  pub ran_promise : Came words files before now status o e → status < 128 → TellsFiles files → Ran words files status o.taken_before o.taken_now
-  ran_promise c small tells = ran_told words files before now status o e c.answer (ways c) c.told small tells
-
-  pub err_prefix_promise : Came words files before now status o e → TakesPrefixOfLine words files before now e.taken_before e.taken_now e.tally_before e.tally_now
-  err_prefix_promise c =
-      let line = told_prefix c.answer status e c.told in
+  pub told_place_promise : Came words files before now status n o e → HasPlace status → TellsPlace words status e.taken_before e.taken_now o.taken_before o.taken_now
+  told_place_promise c place =
+      let w = whole_of (file_name words) c.answer status e c.told (λ g. no_plain_place status place (inr g)) in
+      let r = is_refused c.answer status (sym w.0) (no_plain_place status place) in
+      let idle = untouched_of words files before now n o c.answer (ways c) (subst IsNoRun (sym r.1) tt) in
       record {
-        usage = λ none. usage_prefix words files before now o e c.answer (ways c) none line;
-        missing = λ missing. missing_prefix words files before now o e c.answer (ways c) missing line;
-        long = λ long nf. let P : List ℕ → Type 0 = λ bytes. most_source_bytes < length bytes in let n = named words files P long in long_line n.bytes before now c.answer o e n.holds (named_came words files before now P c.answer o n c.gives) nf line;
-        other = λ other nf. let P : List ℕ → Type 0 = λ bytes. (length bytes ≤ most_source_bytes) × ((p : First) → ¬ IsFirstText p bytes) in let n = named words files P other in other_line n.bytes before now c.answer o e n.holds.0 n.holds.1 (named_came words files before now P c.answer o n c.gives) nf line;
-        source = λ p source nf. let P : List ℕ → Type 0 = λ bytes. Fits p bytes in let n = named words files P source in source_line p n.bytes before now c.answer o e n.holds (named_came words files before now P c.answer o n c.gives) nf line;
+        refusal = r.0;
+        status_is = w.0 ∙ ap status_of r.1;
+        told = w.1 ∙ ap (λ a. append_known e.taken_before (line_of (file_name words) a)) r.1;
+        untouched = idle.1.taken;
+      }
+
+  pub out_prefix_promise : Came words files before now status n o e → (f : FirstForm) → IsSource words files f → LinePrefix o (printed f)
+  out_prefix_promise c f source =
+      let P : List ℕ → Type 0 = Fits (Outcome.First f) in
+      let file = named words files P source in
+      out_prefix f file.bytes before now c.answer n o file.holds (came c P file)
+
+  pub out_nothing_promise : Came words files before now status n o e → TellsFiles files → ((f : FirstForm) → ¬ IsSource words files f) → o.taken_now ≡ o.taken_before
+  out_nothing_promise c tells not = nothing_of words files before now n o c.answer (ways c) tells not
+
+  pub not_run_promise : Came words files before now status n o e → 128 ≤ status → ¬ GivesWay status → n ≡ 0
+  not_run_promise c large not =
+      let w = whole_of (file_name words) c.answer status e c.told not in
+      (untouched_of words files before now n o c.answer (ways c) (no_run c.answer status w.0 large not)).0
+
+  pub err_prefix_promise : Came words files before now status n o e → TakesPrefixOfLine words files before now e.taken_before e.taken_now e.tally_before e.tally_now
+  err_prefix_promise c =
+      let line = told_prefix (file_name words) c.answer status e c.told in
+      record {
+        usage = λ none. usage_prefix words files before now (file_name words) n o e c.answer (ways c) none line;
+        failed = λ rose. failed_prefix words files before now (file_name words) n o e c.answer (ways c) rose line;
+        missing = λ missing. missing_prefix words files before now (file_name words) n o e c.answer (ways c) missing line;
+        long = λ long nf. let P : List ℕ → Type 0 = λ bytes. most_source_bytes < length bytes in let f = named words files P long in long_line f.bytes (file_name words) before now c.answer n o e f.holds (came c P f) nf line;
+        refused = λ r refused nf. let P : List ℕ → Type 0 = Fits (Outcome.Refused r) in let f = named words files P refused in refused_line r f.bytes (file_name words) before now c.answer n o e f.holds (came c P f) nf line;
+        source = λ form source nf. let P : List ℕ → Type 0 = Fits (Outcome.First form) in let f = named words files P source in source_line form f.bytes (file_name words) before now c.answer n o e f.holds (came c P f) nf line;
       }

@@ -7,8 +7,6 @@ use Rattle.ob_base.specs.Folder.{Files, IsMissing}
 use Rattle.ob_base.specs.Sink.{TakesPrefix, tally_known}
 use Rattle.ob_model.specs.declared.endings.Ending as ending
 use Rattle.ob_model.specs.declared.endings.Ending.TheVariants as endings
-use Rattle.ob_model.specs.declared.settings.RunSettings.{RunSettings}
-use Rattle.ob_model.specs.declared.settings.Mode.TheVariants.{Oblivious}
 use Rattle.ob_model.specs.Endings as models
 use Rattle.ob_code.specs.declared.faults.Part.{Part}
 use Rattle.ob_code.specs.declared.faults.Part.TheVariants as part
@@ -21,14 +19,11 @@ use Rattle.ob_program.specs.declared.exec_answer.ExecAnswer.{ExecAnswer}
 use Rattle.ob_program.specs.declared.exec_answer.ExecAnswer.TheVariants.{FileFault, FileLong, BadImage, Ran, NoMemory}
 use Rattle.ob_program.specs.Answer.{Output, IsToldAs}
 use Rattle.ob_program.specs.Lines.{file_fault_line, file_long_line}
+use Rattle.ob_program.specs.Settings.{usual}
 
 -- the most bytes that an image file has: 64 mebibytes
 abbrev pub most_image_bytes : ℕ
 most_image_bytes = 67108864
-
--- the settings of a run
-abbrev pub usual : RunSettings
-usual = record { mode = Oblivious; store = 65536; away = 65536; heap = 4194304 }
 
 -- the exit status
 abbrev pub status_of : ExecAnswer → ℕ

@@ -3,6 +3,7 @@ use Rattle.std.specs.Prelude.{ℕ, ◌+◌, ◌-◌, ◌*◌, Bool, not, ◌&&�
 use Rattle.std.specs.List.{list_all}
 use Rattle.std.specs.Str.{bytes_eq}
 use Rattle.ob_program.specs.Job.{begins_with_dash}
+use Rattle.ob_program.specs.Settings.{usual_steps}
 
 -- a number of at most 1,000,000,000, in 1 to 10 decimal digits
 abbrev pub is_digit : ℕ → Bool
@@ -23,7 +24,7 @@ steps_of_word word = if is_number word then within_limit (value_from 0 word) els
 
 -- the steps that the options name: none, or `--steps` and a number
 abbrev pub steps_of : List (List ℕ) → Option ℕ
-steps_of [] = Some 10000000
+steps_of [] = Some usual_steps
 steps_of (option ∷ []) = None
 steps_of (option ∷ word ∷ []) = if bytes_eq option (codes "--steps") then steps_of_word word else None
 steps_of (option ∷ word ∷ more ∷ others) = None

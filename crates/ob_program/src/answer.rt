@@ -1,6 +1,9 @@
 ghost use Rattle.std.specs.Prelude.{◌≡◌};
-ghost use Rattle.ob_program.specs.Answer.{line_of, status_of};
+ghost use Rattle.ob_program.specs.Answer.{IsLineOf, status_of};
 ghost use Rattle.ob_words.specs.Conversion.{residue};
+
+use crate::line::{Line, lex_name, syntax_name};
+use crate::refusal::Refusal;
 
 /// What the words came to, before the error sink was told.
 #[derive(Clone, Copy, Debug, PartialEq, Eq)]
@@ -9,7 +12,7 @@ pub(crate) enum Answer {
     Usage,
     FileFault,
     FileLong,
-    NotYet,
+    Refused(Refusal),
     WriteFault,
     NoMemory,
 }
@@ -24,24 +27,31 @@ impl Answer {
             Answer::Usage => 128,
             Answer::FileFault => 129,
             Answer::FileLong => 130,
+            Answer::Refused(refusal) => refusal.status(),
             Answer::WriteFault => 143,
             Answer::NoMemory => 144,
-            Answer::NotYet => 145,
         }
     }
 
-    /// The line that the error sink gets; none for a run that ended, a failed write and want of
+    /// The line that the error sink gets; an empty one for a run that ended, a failed write and want of
     /// memory.
-    pub(crate) fn line(self) -> &'static [u8]
-        ensures { result.now ≡ line_of self }
+    pub(crate) fn line(self) -> Line
+        ensures { IsLineOf self result }
     {
         match self {
-            Answer::Usage =>
-                b"usage: oblivious run|compile|exec|check|audit|sample ARGUMENT [OPTIONS]\n",
-            Answer::FileFault => b"oblivious: FileFault\n",
-            Answer::FileLong => b"oblivious: FileLong\n",
-            Answer::NotYet => b"oblivious: NotYet\n",
-            Answer::Ended(_) | Answer::WriteFault | Answer::NoMemory => b"",
+            Answer::Usage => Line::Fixed(
+                "usage: oblivious run|compile|exec|check|audit|sample ARGUMENT [OPTIONS]\n",
+            ),
+            Answer::FileFault => Line::Fixed("oblivious: FileFault\n"),
+            Answer::FileLong => Line::Fixed("oblivious: FileLong\n"),
+            Answer::Refused(Refusal::Lex(kind, position)) => {
+                Line::Placed(position, "lex", lex_name(kind))
+            }
+            Answer::Refused(Refusal::Syntax(kind, position)) => {
+                Line::Placed(position, "syntax", syntax_name(kind))
+            }
+            Answer::Refused(Refusal::NotYet) => Line::Fixed("oblivious: NotYet\n"),
+            Answer::Ended(_) | Answer::WriteFault | Answer::NoMemory => Line::Fixed(""),
         }
     }
 }

@@ -3,24 +3,16 @@ ghost use Rattle.ob_program.specs.ExecAnswer.{BytesGive, ExecGives, Execs, IsTol
 
 use crate::answer::Answer;
 use crate::exec_answer::ExecAnswer;
+use crate::settings::USUAL;
 use crate::status::Status;
 use ob_base::{FileAnswer, Folder, Sink, Source, write_all};
 use ob_code::{Part, verify};
 use ob_image::{ImageFault, read_image};
 use ob_machine::Machine;
-use ob_model::{Mode, RunSettings};
 use std::alloc::Global;
 
 /// The most bytes that an image file has.
 const MOST_IMAGE_BYTES: usize = 67_108_864;
-
-/// The settings of a run.
-const USUAL: RunSettings = RunSettings {
-    mode: Mode::Oblivious,
-    store: 65_536,
-    away: 65_536,
-    heap: 4_194_304,
-};
 
 /// What an image came to, and how many instructions its run did.
 #[derive(Clone, Copy, Debug)]

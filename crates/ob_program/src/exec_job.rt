@@ -1,11 +1,10 @@
 ghost use Rattle.std.specs.Prelude.{◌≡◌, map, string_bytes};
 ghost use Rattle.ob_program.specs.ExecJob.{exec_steps, is_digit, steps_of, steps_of_word};
 
+use crate::settings::USUAL_STEPS;
+
 /// The greatest number of steps.
 const MOST_STEPS: u64 = 1_000_000_000;
-
-/// The number of steps that are given unless others are named.
-const USUAL_STEPS: u64 = 10_000_000;
 
 fn is_digit(byte: u8) -> bool
     ensures { result ≡ is_digit byte }

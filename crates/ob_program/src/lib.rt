@@ -1,9 +1,11 @@
 //! The program behind its `main`: reads the words of the command line, loads the file that they name,
-//! runs it, and answers with a status. A source is compiled first; an image is verified first. What it
-//! promises is said by the clauses of `top`. Stands on `ob_base` for its devices, on `ob_tree` for the
-//! source, on `ob_image` and `ob_code` for images, and on `ob_machine` for the run.
+//! runs it, and answers with a status. A source is read and compiled first; an image is verified first.
+//! What it promises is said by the clauses of `top`. Each text comes to exactly one of the outcomes that
+//! they speak of, as two laws say. Stands on `ob_base` for its devices, on `ob_lexer`, `ob_parser` and
+//! `ob_tree` for the source, on `ob_image` and `ob_code` for images, and on `ob_machine` for the run.
 #![tactic(auto)]
 
+pub use laws::{law_one_outcome, law_some_outcome};
 pub use program::top;
 pub use status::Status;
 
@@ -11,8 +13,14 @@ mod answer;
 mod exec;
 mod exec_answer;
 mod exec_job;
+mod first_form;
+mod front;
 mod job;
+mod laws;
+mod line;
 mod program;
+mod refusal;
+mod settings;
 mod source;
 mod status;
 #[cfg(test)]

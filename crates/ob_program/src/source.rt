@@ -1,54 +1,103 @@
-ghost use Rattle.ob_program.specs.Answer.{JobGives, SourceGives};
-ghost use Rattle.ob_program.specs.Job.{job_of};
-ghost use Rattle.std.specs.Prelude.{map, string_bytes};
+ghost use Rattle.std.specs.Prelude.{◌≡◌, ◌<◌, ◌≤◌, ◌^◌, length};
+ghost use Rattle.std.specs.Option.{option_copied};
+ghost use Rattle.ob_program.specs.Answer.{FormGives, JobGives, SourceGives, ending_answer};
+ghost use Rattle.ob_program.specs.FirstCode.{first_code, only_main};
+ghost use Rattle.ob_program.specs.FirstForm.{FirstForm};
+ghost use Rattle.ob_program.specs.FirstRun.{Prints};
+ghost use Rattle.ob_program.specs.Settings.{usual_steps};
 
 use crate::answer::Answer;
-use crate::job::job;
-use ob_base::{FileAnswer, Folder, Sink};
-use ob_machine::{FirstEnd, lower_first, run_code};
-use ob_tree::{FirstFault, parse_first};
+use crate::first_form::first_image;
+use crate::front::front;
+use crate::refusal::Refusal;
+use crate::settings::{USUAL, USUAL_STEPS};
+use ob_base::{FileAnswer, Folder, MemSource, NoMemory, Sink};
+use ob_code::Verified;
+use ob_machine::Machine;
+use ob_model::Ending;
 use std::alloc::Global;
 
 /// The most bytes that a source has.
 const MOST_SOURCE_BYTES: usize = 1_048_576;
 
-/// What the words come to: the file that they name is loaded, compiled and run on `out`.
-pub(crate) fn answer<F: Folder, K: Sink>(
-    alloc: Global,
-    words: &[String],
-    folder: &mut F,
-    out: &mut K,
-) -> Answer
-    ensures { JobGives (F.files folder.old) (F.faults folder.old) (F.faults folder.new) (job_of (map string_bytes words.now)) result
-        (record { taken_before = K.taken out.old; taken_now = K.taken out.new; tally_before = K.tally out.old; tally_now = K.tally out.new; faults_before = K.faults out.old; faults_now = K.faults out.new }) }
+/// What the words came to, and how many instructions were done.
+#[derive(Clone, Copy, Debug)]
+pub(crate) struct Came {
+    pub answer: Answer,
+    pub instructions: u64,
+}
+
+fn not_run(answer: Answer) -> Came
+    ensures { result ≡ record { answer = answer; instructions = 0 } }
 {
-    let Some(name) = job(words) else {
-        return Answer::Usage;
-    };
-    match folder.load(alloc, name, MOST_SOURCE_BYTES) {
-        Ok(bytes) => run_source(alloc, &bytes, out),
-        Err(FileAnswer::Failed) => Answer::FileFault,
-        Err(FileAnswer::Long) => Answer::FileLong,
-        Err(FileAnswer::NoMemory) => Answer::NoMemory,
+    Came {
+        answer,
+        instructions: 0,
     }
 }
 
-/// Compiles and runs a source.
-fn run_source<K: Sink>(alloc: Global, bytes: &[u8], out: &mut K) -> Answer
-    ensures { SourceGives bytes.now result
+/// What a job comes to: the file that it names is loaded, compiled and run on `out`.
+pub(crate) fn answer<F: Folder, K: Sink>(
+    alloc: Global,
+    job: Option<&str>,
+    folder: &mut F,
+    out: &mut K,
+) -> Came
+    ensures { JobGives (F.files folder.old) (F.faults folder.old) (F.faults folder.new) (option_copied job.entry) result.answer result.instructions
         (record { taken_before = K.taken out.old; taken_now = K.taken out.new; tally_before = K.tally out.old; tally_now = K.tally out.new; faults_before = K.faults out.old; faults_now = K.faults out.new }) }
 {
-    let source = match parse_first(alloc, bytes) {
-        Ok(source) => source,
-        Err(FirstFault::NotYet) => return Answer::NotYet,
-        Err(FirstFault::NoMemory) => return Answer::NoMemory,
+    let Some(name) = job else {
+        return not_run(Answer::Usage);
     };
-    let Ok(code) = lower_first(alloc, &source) else {
-        return Answer::NoMemory;
+    match folder.load(alloc, name, MOST_SOURCE_BYTES) {
+        Ok(bytes) => run_source(alloc, &bytes, out),
+        Err(FileAnswer::Failed) => not_run(Answer::FileFault),
+        Err(FileAnswer::Long) => not_run(Answer::FileLong),
+        Err(FileAnswer::NoMemory) => not_run(Answer::NoMemory),
+    }
+}
+
+/// Reads, compiles and runs a source of at most 2^20 bytes.
+fn run_source<K: Sink>(alloc: Global, bytes: &[u8], out: &mut K) -> Came
+    requires { length bytes.now ≤ 2 ^ 20 }
+    ensures { SourceGives bytes.now result.answer result.instructions
+        (record { taken_before = K.taken out.old; taken_now = K.taken out.new; tally_before = K.tally out.old; tally_now = K.tally out.new; faults_before = K.faults out.old; faults_now = K.faults out.new }) }
+{
+    let program = match front(alloc, bytes) {
+        Ok(program) => program,
+        Err(answer) => return not_run(answer),
     };
-    match run_code(alloc, &code, out) {
-        FirstEnd::Ended(number) => Answer::Ended(number),
-        FirstEnd::WriteFault => Answer::WriteFault,
-        FirstEnd::NoMemory => Answer::NoMemory,
+    match first_image(alloc, &program) {
+        Ok(Some(image)) => run_image(alloc, image, out),
+        Ok(None) => not_run(Answer::Refused(Refusal::NotYet)),
+        Err(NoMemory) => not_run(Answer::NoMemory),
+    }
+}
+
+/// Runs an image on an empty input. One that does what a first form says ends, unless a write fails.
+fn run_image<K: Sink>(alloc: Global, image: Verified, out: &mut K) -> Came
+    ensures { (form : FirstForm) → (image ≡ only_main (first_code form)) → Prints image form → length form.prints < usual_steps → FormGives form result.answer result.instructions
+        (record { taken_before = K.taken out.old; taken_now = K.taken out.new; tally_before = K.tally out.old; tally_now = K.tally out.new; faults_before = K.faults out.old; faults_now = K.faults out.new }) }
+{
+    let Ok(mut input) = MemSource::new(alloc, b"", &[], 1) else {
+        return not_run(Answer::NoMemory);
+    };
+    let Ok(mut machine) = Machine::load(alloc, image, &USUAL) else {
+        return not_run(Answer::NoMemory);
+    };
+    let ending = machine.run(USUAL_STEPS, &mut input, out);
+    Came {
+        answer: ending_answer(ending),
+        instructions: machine.instructions(),
+    }
+}
+
+/// The answer to a run that ended with its number, or else for a failed write.
+fn ending_answer(ending: Ending) -> Answer
+    ensures { result ≡ ending_answer ending }
+{
+    match ending {
+        Ending::Ended(number) => Answer::Ended(number),
+        _ => Answer::WriteFault,
     }
 }

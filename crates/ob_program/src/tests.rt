@@ -3,6 +3,8 @@
 ghost use Rattle.std.specs.Prelude.{◌<◌};
 
 mod exec;
+mod faults;
+mod forms;
 mod images;
 
 use crate::top;
@@ -10,29 +12,30 @@ use ob_base::{MemFolder, MemSink, MemSource, NoMemory};
 use std::alloc::{AllocError, Global};
 use std::test::Fail;
 
-const HELLO: &[u8] = b"int main(void){putchar(72);putchar(105);return 3;}";
+pub(crate) const HELLO: &[u8] = b"int main(void){putchar(72);putchar(105);return 3;}";
 
 pub(crate) const ROOM: usize = 1_048_576;
 
-/// What the program did: its status, and what the sinks took.
+/// What the program did: its status, its number of instructions, and what the sinks took.
 #[derive(Drop)]
-struct Ran {
-    status: u8,
-    out: String,
-    err: String,
+pub(crate) struct Ran {
+    pub status: u8,
+    pub instructions: u64,
+    pub out: String,
+    pub err: String,
 }
 
 /// The devices of a run: which loads and writes fail, and how many bytes a write takes at most.
 #[derive(Drop)]
-struct Devices<'a> {
-    loads: &'a [u64],
-    outs: &'a [u64],
-    errs: &'a [u64],
-    most: usize,
+pub(crate) struct Devices<'a> {
+    pub loads: &'a [u64],
+    pub outs: &'a [u64],
+    pub errs: &'a [u64],
+    pub most: usize,
     ghost some: { 0 < most },
 }
 
-fn sound<'a>() -> Devices<'a> {
+pub(crate) fn sound<'a>() -> Devices<'a> {
     Devices {
         loads: &[],
         outs: &[],
@@ -53,9 +56,16 @@ pub(crate) fn words(alloc: Global, line: &str) -> Result<Vec<String>, AllocError
     Ok(all)
 }
 
-fn run(alloc: Global, line: &str, source: &[u8], devices: &Devices) -> Result<Ran, NoMemory> {
+/// Does what the words of the line ask for, where a file of that name has this source.
+pub(crate) fn run(
+    alloc: Global,
+    line: &str,
+    name: &str,
+    source: &[u8],
+    devices: &Devices,
+) -> Result<Ran, NoMemory> {
     let mut folder = MemFolder::new(alloc, devices.loads)?;
-    folder.add("hello.c", source)?;
+    folder.add(name, source)?;
     let mut input = MemSource::new(alloc, b"", &[0], 1)?;
     let mut out = MemSink::new(alloc, ROOM, devices.outs, devices.most)?;
     let mut err = MemSink::new(alloc, ROOM, devices.errs, devices.most)?;
@@ -69,69 +79,34 @@ fn run(alloc: Global, line: &str, source: &[u8], devices: &Devices) -> Result<Ra
     );
     Ok(Ran {
         status: status.code(),
+        instructions: status.instructions(),
         out: text(alloc, out.taken())?,
         err: text(alloc, err.taken())?,
     })
 }
 
+/// Runs a source under the name `c.c`.
+pub(crate) fn run_source(alloc: Global, source: &[u8]) -> Result<Ran, NoMemory> {
+    run(alloc, "run c.c", "c.c", source, &sound())
+}
+
 const USAGE: &str = "usage: oblivious run|compile|exec|check|audit|sample ARGUMENT [OPTIONS]\n";
 
 #[test]
-fn words_and_sources(rt: HostRuntime) -> Result<(), Fail> {
-    let rows: [(&str, &[u8], &str, &str, u8); 14] = [
-        ("run hello.c", HELLO, "Hi", "", 3),
-        (
-            "run hello.c",
-            b"int main(void){putchar(72);putchar(105);return 3;}\n",
-            "",
-            "oblivious: NotYet\n",
-            145,
-        ),
-        (
-            "run hello.c",
-            b"int main(void){putchar(2147483647+2147483647+67);return 0;}",
-            "A",
-            "",
-            0,
-        ),
-        (
-            "run hello.c",
-            b"int main(void){return 2147483647+1;}",
-            "",
-            "",
-            0,
-        ),
-        (
-            "run hello.c",
-            b"int main(void){return 2147483647+2;}",
-            "",
-            "",
-            1,
-        ),
-        (
-            "run hello.c",
-            b"int main(void){return 2147483648;}",
-            "",
-            "oblivious: NotYet\n",
-            145,
-        ),
-        ("run hello.c", b"", "", "oblivious: NotYet\n", 145),
-        ("run", HELLO, "", USAGE, 128),
-        ("run hello.c --steps 5 --steps 6", HELLO, "", USAGE, 128),
-        ("run -hello.c", HELLO, "", USAGE, 128),
-        (
-            "exec hello.c",
-            HELLO,
-            "",
-            "oblivious: BadImage Bytes 0\n",
-            135,
-        ),
-        ("", HELLO, "", USAGE, 128),
-        ("run gone.c", HELLO, "", "oblivious: FileFault\n", 129),
-        ("run hello.c hello.c", HELLO, "", USAGE, 128),
+fn words_that_ask(rt: HostRuntime) -> Result<(), Fail> {
+    let rows: [(&str, &str, &str, u8); 9] = [
+        ("run hello.c", "Hi", "", 3),
+        ("run", "", USAGE, 128),
+        ("run hello.c --steps 5 --steps 6", "", USAGE, 128),
+        ("run -hello.c", "", USAGE, 128),
+        ("exec hello.c", "", "oblivious: BadImage Bytes 0\n", 135),
+        ("", "", USAGE, 128),
+        ("run gone.c", "", "oblivious: FileFault\n", 129),
+        ("run hello.c hello.c", "", USAGE, 128),
+        ("check hello.c", "", USAGE, 128),
     ];
-    for (line, source, out, err, status) in rows {
-        let ran = run(rt.alloc(), line, source, &sound())?;
+    for (line, out, err, status) in rows {
+        let ran = run(rt.alloc(), line, "hello.c", HELLO, &sound())?;
         assert_eq!(rt; ran.status, status, "at {line}");
         assert_eq!(rt; ran.out.as_str(), out, "at {line}");
         assert_eq!(rt; ran.err.as_str(), err, "at {line}");
@@ -142,13 +117,29 @@ fn words_and_sources(rt: HostRuntime) -> Result<(), Fail> {
 /// A source of a mebibyte is read whole; one byte more is too long.
 #[test]
 fn longest_sources(rt: HostRuntime) -> Result<(), Fail> {
-    let mut source = vec![in rt.alloc(); b' '; 1_048_576]?;
-    let at_limit = run(rt.alloc(), "run hello.c", &source, &sound())?;
-    assert_eq!(rt; at_limit.status, 145);
+    let alloc = rt.alloc();
+    let mut source = Vec::new(alloc);
+    source.extend_from_slice(HELLO)?;
+    source.resize(1_048_576, b' ')?;
+    let at_limit = run_source(alloc, &source)?;
+    assert_eq!(rt; (at_limit.status, at_limit.out.as_str()), (3, "Hi"));
     source.push(b' ')?;
-    let past = run(rt.alloc(), "run hello.c", &source, &sound())?;
-    assert_eq!(rt; past.status, 130);
-    assert_eq!(rt; past.err.as_str(), "oblivious: FileLong\n");
+    let past = run_source(alloc, &source)?;
+    assert_eq!(rt;
+        (past.status, past.err.as_str()),
+        (130, "oblivious: FileLong\n")
+    );
+    Ok(())
+}
+
+#[test]
+fn longest_blank_source(rt: HostRuntime) -> Result<(), Fail> {
+    let blank = vec![in rt.alloc(); b' '; 1_048_576]?;
+    let nothing = run_source(rt.alloc(), &blank)?;
+    assert_eq!(rt;
+        (nothing.status, nothing.err.as_str()),
+        (132, "c.c:1:1048577: syntax NoTree\n")
+    );
     Ok(())
 }
 
@@ -157,7 +148,7 @@ fn devices_that_fail(rt: HostRuntime) -> Result<(), Fail> {
     let alloc = rt.alloc();
     let mut devices = sound();
     devices.loads = &[0];
-    let load = run(alloc, "run hello.c", HELLO, &devices)?;
+    let load = run(alloc, "run hello.c", "hello.c", HELLO, &devices)?;
     assert_eq!(rt;
         (load.status, load.err.as_str()),
         (129, "oblivious: FileFault\n")
@@ -165,7 +156,7 @@ fn devices_that_fail(rt: HostRuntime) -> Result<(), Fail> {
 
     let mut devices = sound();
     devices.outs = &[0];
-    let first = run(alloc, "run hello.c", HELLO, &devices)?;
+    let first = run(alloc, "run hello.c", "hello.c", HELLO, &devices)?;
     assert_eq!(rt;
         (first.status, first.out.as_str(), first.err.as_str()),
         (143, "", "")
@@ -173,8 +164,10 @@ fn devices_that_fail(rt: HostRuntime) -> Result<(), Fail> {
 
     let mut devices = sound();
     devices.errs = &[0];
-    let told = run(alloc, "run", HELLO, &devices)?;
+    let told = run(alloc, "run", "hello.c", HELLO, &devices)?;
     assert_eq!(rt; (told.status, told.err.as_str()), (143, ""));
+    let fault = run(alloc, "run hello.c", "hello.c", b"int", &devices)?;
+    assert_eq!(rt; (fault.status, fault.err.as_str()), (143, ""));
     Ok(())
 }
 
@@ -184,12 +177,17 @@ fn sinks_that_take_one_byte(rt: HostRuntime) -> Result<(), Fail> {
     let alloc = rt.alloc();
     let mut devices = sound();
     devices.most = 1;
-    let slow = run(alloc, "run hello.c", HELLO, &devices)?;
+    let slow = run(alloc, "run hello.c", "hello.c", HELLO, &devices)?;
     assert_eq!(rt; (slow.status, slow.out.as_str()), (3, "Hi"));
-    let line = run(alloc, "run", HELLO, &devices)?;
+    let line = run(alloc, "run", "hello.c", HELLO, &devices)?;
     assert_eq!(rt; line.err.as_str(), USAGE);
+    let fault = run(alloc, "run hello.c", "hello.c", b"int", &devices)?;
+    assert_eq!(rt; fault.err.as_str(), "hello.c:1:4: syntax NoTree\n");
     devices.outs = &[1];
-    let cut = run(alloc, "run hello.c", HELLO, &devices)?;
+    let cut = run(alloc, "run hello.c", "hello.c", HELLO, &devices)?;
     assert_eq!(rt; (cut.status, cut.out.as_str()), (143, "H"));
+    devices.errs = &[4];
+    let told = run(alloc, "run hello.c", "hello.c", b"int", &devices)?;
+    assert_eq!(rt; (told.status, told.err.as_str()), (143, "hell"));
     Ok(())
 }

@@ -1,4 +1,4 @@
-use Rattle.ob_machine.proofs.IntRange.{remainder_is}
+use Rattle.ob_program.proofs.Residue.{remainder_is}
 use Rattle.ob_program.proofs.answer.modulo_128.Goals as goal
 
 pub returns : goal.returns

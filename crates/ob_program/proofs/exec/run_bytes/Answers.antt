@@ -1,7 +1,7 @@
 use Rattle.std.proofs.Common.{ap, ◌∙◌, subst}
 use Rattle.ob_machine.specs.Devices.{Reading, Writing}
 use Rattle.ob_machine.specs.Machines.{Runs, loaded}
-use Rattle.ob_program.specs.ExecAnswer.{usual}
+use Rattle.ob_program.specs.Settings.{usual}
 use Rattle.ob_program.proofs.exec.run_bytes.Goals as goal
 use Rattle.ob_program.proofs.exec.run_bytes.Given.{Over}
 
