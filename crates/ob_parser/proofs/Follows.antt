@@ -1,5 +1,5 @@
 -- What a token leads to, and what an expression or a specifier leads to that begins with it.
-use Rattle.std.proofs.Common.{◌≡◌, ℕ, zero, suc, ◌+◌, ◌-◌, ◌<◌, ◌≤◌, ◌⊎◌, inl, inr, min, max, List, [], ◌∷◌, length, drop, map, slice_get, Bool, true, false, Option, Some, None, cond, refl, sym, ◌∙◌, ap, subst, arith, length-drop}
+use Rattle.std.proofs.Common.{◌≡◌, ℕ, zero, suc, ◌+◌, ◌-◌, ◌<◌, ◌≤◌, ◌⊎◌, inl, inr, min, List, [], ◌∷◌, length, drop, map, slice_get, Bool, true, false, Option, Some, None, cond, refl, sym, ◌∙◌, ap, subst, arith}
 use Rattle.std.specs.Prelude.{nat_le}
 use Rattle.std.specs.List.{All}
 use Rattle.std.proofs.lemmas.Bool.{leb-true, cases_lt}
@@ -18,19 +18,19 @@ use Rattle.ob_tree.specs.Valid.{IsOfSource}
 use Rattle.ob_tree.specs.Levels.{is_unary}
 use Rattle.ob_tree.specs.Paths.{height, height_spec}
 use Rattle.ob_tree.specs.Places.{here}
-use Rattle.ob_tree.specs.Fronts.{kinds, lines, within, FrontExpr, DeepFrontExpr, IsExpr, FrontSpec, DeepFrontSpec, IsSpec}
+use Rattle.ob_tree.specs.Fronts.{lines, FrontExpr, DeepFrontExpr, FrontSpec, DeepFrontSpec}
 use Rattle.ob_tree.specs.Answers.{Verdict, Whole, NoTree, TooDeep}
 use Rattle.ob_tree.proofs.Machine as reader
-use Rattle.ob_tree.proofs.Readings.{Reading as Leaves, Deep, turn, read, found, verdict}
-use Rattle.ob_tree.proofs.ProgramStates.{SpecUse, ForDeclaration, ForParam, Use, State, Items, Specifying, Reading}
+use Rattle.ob_tree.proofs.Readings.{Deep, turn, read, found, verdict}
+use Rattle.ob_tree.proofs.ProgramStates.{SpecUse, ForDeclaration, ForParam, Use, State, Specifying, Reading}
 use Rattle.ob_tree.proofs.ProgramMachine as program
 use Rattle.ob_tree.proofs.ProgramMachine.{use_level, used, specified, step, finish}
 use Rattle.ob_exprs.specs.Loads as loads
 use Rattle.ob_exprs.specs.Parsed.{IsExprVerdict, IsSpecVerdict}
 use Rattle.ob_exprs.specs.Reads as exprs
 use Rattle.ob_parser.specs.Answer.{Answer, IsAnswer, IsProgramVerdict}
-use Rattle.ob_parser.specs.Loads.{spec_depth, spec_load, use_depth, use_load, load, newest}
-use Rattle.ob_parser.specs.Reads.{reading, Kept, Reached, Behind, Ends, After, AwaitsExpr, begins_spec, AwaitsSpec}
+use Rattle.ob_parser.specs.Loads.{spec_depth, spec_load, use_depth, use_load, load}
+use Rattle.ob_parser.specs.Reads.{reading, Kept, Reached, Behind, After, AwaitsExpr, begins_spec, AwaitsSpec}
 use Rattle.ob_parser.proofs.SoundUses.{use-low}
 use Rattle.ob_parser.proofs.OneAnswer.{stopped, no-tree, too-deep}
 use Rattle.ob_parser.proofs.Light.{Light, IsBetween, step-light, used-light, specified-light, use-deep}

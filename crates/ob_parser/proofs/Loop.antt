@@ -1,5 +1,5 @@
 -- The loop that reads a program token by token.
-use Rattle.std.proofs.Common.{◌≡◌, ℕ, ◌+◌, ◌<◌, ◌≤◌, min, List, [], ◌∷◌, length, drop, map, get_or, slice_get, Bool, true, false, cond, Option, Some, None, option_map, refl, sym, ◌∙◌, ap, subst, arith}
+use Rattle.std.proofs.Common.{◌≡◌, ℕ, ◌<◌, ◌≤◌, min, List, [], length, map, get_or, slice_get, Bool, true, false, cond, Option, Some, None, option_map, refl, sym, ◌∙◌, ap, subst, arith}
 use Rattle.std.specs.Prelude.{Ok, Err}
 use Rattle.std.specs.List.{All}
 use Rattle.std.proofs.lemmas.Option.{slice_get_read}
@@ -32,13 +32,13 @@ use Rattle.ob_parser.specs.declared.state.Step.TheVariants as stepped_to
 use Rattle.ob_parser.specs.declared.state.Use.{Use as CodeUse}
 use Rattle.ob_parser.specs.declared.state.SpecUse.{SpecUse as CodeSpecUse}
 use Rattle.ob_parser.specs.Answer.{Answer, IsAnswer, IsProgramVerdict, ParsedProgram}
-use Rattle.ob_parser.specs.Loads.{spec_depth, use_depth, load, newest}
+use Rattle.ob_parser.specs.Loads.{spec_depth, use_depth, load}
 use Rattle.ob_parser.specs.Steps.{Leads, Reaches, state_of}
 use Rattle.ob_parser.specs.View.{spec_use_of, use_of}
-use Rattle.ob_parser.specs.Reads.{reading, Kept, Reached, Behind, Ends, After, AwaitsExpr, AwaitsSpec, IsRightFault, Turned}
+use Rattle.ob_parser.specs.Reads.{Kept, Behind, Ends, After, AwaitsExpr, AwaitsSpec, IsRightFault, Turned}
 use Rattle.ob_parser.proofs.OneAnswer.{first-right, parsed, no-tree}
 use Rattle.ob_parser.proofs.Light.{IsBetween}
-use Rattle.ob_parser.proofs.Follows.{TokenAt, token-at, stepped, awaits-expr, awaits-spec}
+use Rattle.ob_parser.proofs.Follows.{token-at, stepped, awaits-expr, awaits-spec}
 
 -- What stands behind a tree.
 module _ (ts : List Token) (i j : ℕ) (next : TokenKind → Option plain.State) (e : Ends ts i j next) where

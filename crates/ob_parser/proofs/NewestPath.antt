@@ -1,5 +1,5 @@
 -- The newest path is one of those that have begun.
-use Rattle.std.proofs.Common.{◌≡◌, ℕ, ◌≤◌, List, [], ◌∷◌, length, refl, arith}
+use Rattle.std.proofs.Common.{◌≡◌, ◌≤◌, List, [], ◌∷◌, length, refl, arith}
 use Rattle.ob_tree.specs.declared.expressions.Dim.{Dim, Dim'}
 use Rattle.ob_tree.specs.declared.expressions.ExprNode.TheBlock.{Dim-length-None', Dim-length-Some'}
 use Rattle.ob_tree.specs.ExpressionView.{dim_trees}

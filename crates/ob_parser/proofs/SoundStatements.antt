@@ -15,7 +15,7 @@ use Rattle.ob_tree.specs.ProgramSpelling.{spell_option, spell_static, spell_star
 use Rattle.ob_tree.specs.Valid.{IsOfSource}
 use Rattle.ob_tree.specs.ProgramValid.{ValidStmt, ValidItem, IsBlock, ends_in_if}
 use Rattle.ob_tree.proofs.Machine as reader
-use Rattle.ob_tree.proofs.ProgramStates.{Definition, Frame, InBody, InBlock, InIf, InElse, InWhile, InDo, InFor, Outer, Inner, Start, ForDeclaration, Use, Statement, IfTest, WhileTest, DoTest, ForStart, Return, State, Items, Specifying, Declare, Dims, Optional, Reading, Init, AfterInit, Params, NextParam, Param, Closed, Begin, Opening, ForWord, ForOpen, Semi, Done}
+use Rattle.ob_tree.proofs.ProgramStates.{Definition, Frame, InBody, InBlock, InIf, InElse, InWhile, InDo, InFor, Outer, Inner, Start, ForDeclaration, Use, Statement, IfTest, WhileTest, DoTest, ForStart, State, Items, Specifying, Declare, Dims, Optional, Reading, Init, AfterInit, Params, NextParam, Param, Closed, Begin, Opening, ForWord, ForOpen, Semi, Done}
 use Rattle.ob_tree.proofs.ProgramParts.{at_semi, at_open, add_statement}
 use Rattle.ob_tree.proofs.ProgramMachine.{read, optional, heading, statement_word, statement, begins_declaration, begin_declaration, block_item, begin, for_start, specify, to_else, reduce, define, after_whole, done, step}
 use Rattle.ob_parser.proofs.Shapes.{if_open, while_open, for_open, stack_spell, opening_spell, semi_spell, state_spell, TakesStmt, Takes, Stands, IsTest, UseOk, SemiOk, StateOk}

@@ -15,14 +15,14 @@ use Rattle.ob_tree.specs.ProgramValid.{ValidOption}
 use Rattle.ob_tree.proofs.Machine as reader
 use Rattle.ob_tree.proofs.ProgramStates.{Frame, InBody, InBlock, InIf, InElse, InWhile, InDo, InFor, Head, Target, Braces, Use, Statement, IfTest, WhileTest, DoTest, ForStart, ForTest, ForNext, Return, Length, Item, State, Dims, Optional, Begin, Semi, Done}
 use Rattle.ob_tree.proofs.ProgramParts.{at_semi, at_open, at_close, at_bracket, at_while}
-use Rattle.ob_tree.proofs.ProgramMachine.{use_level, first_length, used, read_to, read_whole, read, optional_to, optional, begin_init, reduce, step}
+use Rattle.ob_tree.proofs.ProgramMachine.{use_level, first_length, used, read_to, read_whole, read, optional_to, optional, begin_init}
 use Rattle.ob_tree.proofs.ProgramInits.{AtLevel}
 use Rattle.ob_exprs.proofs.Adding.{dims-added}
 use Rattle.ob_exprs.proofs.Kept.{reduce-kept}
 use Rattle.ob_exprs.proofs.Shapes as expr
 use Rattle.ob_exprs.proofs.Sound as expr_sound
 use Rattle.ob_exprs.proofs.SoundSpecs.{step-good}
-use Rattle.ob_parser.proofs.Shapes.{if_open, while_open, for_open, stack_spell, head_spell, lists_spell, use_spell, state_spell, TakesStmt, Takes, IsUnder, HeadOk, TargetOk, UseOk, StateOk}
+use Rattle.ob_parser.proofs.Shapes.{if_open, while_open, for_open, stack_spell, head_spell, lists_spell, use_spell, TakesStmt, Takes, IsUnder, HeadOk, TargetOk, UseOk}
 use Rattle.ob_parser.proofs.Adding.{open-valid}
 use Rattle.ob_parser.proofs.Sound.{Good, same-good}
 use Rattle.ob_parser.proofs.SoundDeclarations.{initialised-good, comma-good}
