@@ -31,9 +31,6 @@ pub record AreFunctionsRunnable (image : Image) : Type 0 where
   pub some : 0 < length image.functions
   pub rows : AreSound 65536 (length image.functions) (IsFunctionRunnable image)
 
-abbrev pub IsAllCodeRunnable : Image → Type 0
-IsAllCodeRunnable image = AreSound 1048576 (length image.code) (IsCodeRunnable image)
-
 -- ---- the first fault
 
 -- a part is at fault at the limit's number where it has more rows, and else at the first row that isn't sound

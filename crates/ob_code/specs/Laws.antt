@@ -76,6 +76,9 @@ InputEnds =
     Ends (run_on examples.reading (settings_of Oblivious 1 32) (65 ∷ []) closed) (Ended (negsuc 0)) 3
     × Ends (run_on examples.reading (settings_of Oblivious 1 32) (65 ∷ []) failed) ReadFault 2
 
+abbrev pub InputIsBytes : Type 0
+InputIsBytes = Ends (run_on examples.reading (settings_of Oblivious 1 32) (0 ∷ 321 ∷ []) closed) (Ended (pos 65)) 3
+
 -- ---- pointers
 
 abbrev pub FarPointerHasSlot : Type 0

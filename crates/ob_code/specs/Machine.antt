@@ -60,10 +60,10 @@ get_number t s i = number t (get s i)
 -- ---- numbers
 
 -- a shift counts its whole right word, modulo the width
-abbrev pub right_number : BinOp → IntType → State → ℕ → ℤ
-right_number Shl t s c = pos (get s c)
-right_number Shr t s c = pos (get s c)
-right_number _ t s c = get_number t s c
+abbrev pub right_number : BinOp → IntType → ℕ → ℤ
+right_number Shl t w = pos w
+right_number Shr t w = pos w
+right_number _ t w = number t w
 
 abbrev pub set_result : Result ℤ DivideByZero → ℕ → State → Next
 set_result (Ok n) a s = set_word s a (word n)
@@ -147,10 +147,11 @@ target s i = pointers.resolve s.space (get s i)
 
 -- ---- input and output
 
+-- a source gives bytes alone, but the list may be any: each of its numbers counts modulo 256
 abbrev pub get_char : InputEnd → List ℕ → ℕ → State → Next
 get_char closed [] a s = set_word s a (2 ^ 64 - 1)
 get_char failed [] a s = stops ReadFault s
-get_char end (byte ∷ rest) a s = set_word (record s { input = rest }) a byte
+get_char end (byte ∷ rest) a s = set_word (record s { input = rest }) a (byte % 256)
 
 abbrev pub put_char : ℕ → ℕ → State → Next
 put_char byte a s = set_word (record s { output = s.output ++ byte ∷ [] }) a byte
@@ -177,7 +178,7 @@ act_on u (Some (Move a b)) s = set_word s a (get s b)
 act_on u (Some (Convert kind a b)) s = set_word s a (word (get_number kind s b))
 -- a becomes `b operator c` in the type; a division by zero ends the run
 act_on u (Some (Binary kind operator a b c)) s =
-    set_result (binary operator kind (get_number kind s b) (right_number operator kind s c)) a s
+    set_result (binary operator kind (get_number kind s b) (right_number operator kind (get s c))) a s
 -- a becomes 1 where the numbers b and c stand in the relation, else 0
 act_on u (Some (Compare kind relation a b c)) s =
     set_word s a (flag (compare relation (get_number kind s b) (get_number kind s c)))

@@ -84,10 +84,6 @@ abbrev pub outcome_of : Final → Outcome
 outcome_of f =
     record { finish = plain f.ending; output = f.state.output; events = f.state.events; cycle_place = f.state.cycle_place }
 
-abbrev pub flat_run : Image → RunSettings → List ℕ → ℕ → List ℕ → InputEnd → ℕ → Outcome
-flat_run image settings cycle place input input_end steps =
-    outcome_of (flat_final image settings cycle place input input_end steps)
-
 abbrev pub flat_end : Image → RunSettings → List ℕ → ℕ → List ℕ → InputEnd → ℕ → State
 flat_end image settings cycle place input input_end steps =
     (flat_final image settings cycle place input input_end steps).state

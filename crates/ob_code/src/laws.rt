@@ -1,4 +1,4 @@
-ghost use Rattle.ob_code.specs.Laws.{HelloIsWritten, ReturnPlaceIsCodeLength, EndlessIsSpent, TicksTakeSteps, JumpsGoByZero, ArgumentsAndResultArrive, CallReturnsAfterItself, StackHoldsTwoHalves, CharIsSigned, DivisionByZeroEnds, DisplacementsAreExact, InputEnds, FarPointerHasSlot, PointerComesBack, NullIsFirst, StaticsHoldPointers, HeapStartsAtItsPlace, FreedPlaceIsReused, ArrayHasItsProduct, OtherFreesAreTold, LocalIsStoredAndWiped, StoreVanishesOrIsKept, LeastRecentlyUsedLeaves, VanishesInBothModes, PointerIsStoredWhole, FreedSlotIsReused, DeadGranulesAreForgotten, RunsAreBounded, SpentRunsAreExact};
+ghost use Rattle.ob_code.specs.Laws.{HelloIsWritten, ReturnPlaceIsCodeLength, EndlessIsSpent, TicksTakeSteps, JumpsGoByZero, ArgumentsAndResultArrive, CallReturnsAfterItself, StackHoldsTwoHalves, CharIsSigned, DivisionByZeroEnds, DisplacementsAreExact, InputEnds, InputIsBytes, FarPointerHasSlot, PointerComesBack, NullIsFirst, StaticsHoldPointers, HeapStartsAtItsPlace, FreedPlaceIsReused, ArrayHasItsProduct, OtherFreesAreTold, LocalIsStoredAndWiped, StoreVanishesOrIsKept, LeastRecentlyUsedLeaves, VanishesInBothModes, PointerIsStoredWhole, FreedSlotIsReused, DeadGranulesAreForgotten, RunsAreBounded, SpentRunsAreExact};
 
 /// Runs of the machine's definition on small images: steps, jumps, calls and returns.
 pub fn law_control_runs()
@@ -18,6 +18,7 @@ pub fn law_number_runs()
     ensures division { DivisionByZeroEnds }
     ensures displacements { DisplacementsAreExact }
     ensures input { InputEnds }
+    ensures bytes { InputIsBytes }
 {}
 
 /// Runs on small images: pointers out of bounds, their order, and those that static objects hold.

@@ -1,10 +1,10 @@
 ghost use Rattle.std.specs.Prelude.{◌≡◌, ◌≤◌, ◌^◌};
-ghost use Rattle.ob_exprs.specs.Loads.{head_height as head_height_of, head_rise as head_rise_of, inner as inner_of, line_height as line_height_of, newest as newest_of, newest_stack as newest_stack_of, rise as rise_of};
+ghost use Rattle.ob_exprs.specs.Loads.{head_height as head_height_of, inner as inner_of, line_height as line_height_of, newest as newest_of, newest_stack as newest_stack_of, rise as rise_of};
 ghost use Rattle.ob_exprs.specs.Reading.{held, state_of};
 ghost use Rattle.ob_exprs.specs.View.{frame_of, head_of, line_of};
 
 use crate::reader::Reader;
-use crate::stack::Stack;
+use crate::stack::{Stack, head_rise, rise};
 use crate::state::{Head, Line, Mode, Waiting};
 
 fn line_height(line: &Line) -> usize
@@ -24,26 +24,6 @@ fn head_height(head: &Head) -> usize
     match head {
         Head::Type { spec, .. } => 1 + spec.height as usize,
         Head::Member { line, .. } => 1 + line_height(line),
-    }
-}
-
-fn head_rise(head: &Head) -> usize
-    ensures exact { result ≡ head_rise_of (head_of head.now) }
-    ensures small { result ≤ 2 ^ 33 }
-{
-    match head {
-        Head::Type { stars, .. } => 1 + *stars as usize,
-        Head::Member { stars, .. } => 1 + *stars as usize,
-    }
-}
-
-fn rise(waiting: &Waiting) -> usize
-    ensures exact { result ≡ rise_of (frame_of waiting.now) }
-    ensures small { result ≤ 2 ^ 34 }
-{
-    match waiting {
-        Waiting::Length(head, dims) => head_rise(head) + (dims.count as usize + 1),
-        _ => 1,
     }
 }
 

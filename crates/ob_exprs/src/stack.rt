@@ -1,4 +1,4 @@
-ghost use Rattle.std.specs.Prelude.{◌≡◌, ◌≤◌, ◌+◌, ◌∷◌, [], IfOk, MatchOption, OnOk};
+ghost use Rattle.std.specs.Prelude.{◌≡◌, ◌≤◌, ◌+◌, ◌^◌, ◌∷◌, [], IfOk, MatchOption, OnOk};
 ghost use Rattle.ob_tree.specs.ExpressionView.{dim_trees};
 ghost use Rattle.ob_tree.proofs.Frames.{grip as grip_of, hole as hole_of, top_hole as top_hole_of};
 ghost use Rattle.ob_tree.proofs.Settled.{top_grip as top_grip_of};
@@ -19,23 +19,24 @@ pub struct Stack {
     ghost depth_is: { depth ≡ depth_of (frames waiting.items) },
 }
 
-pub fn head_rise(head: &Head) -> u32
-    requires { head_rise_of (head_of head.now) ≤ 1000 }
-    ensures { result ≡ head_rise_of (head_of head.now) }
+/// The nodes from the row's own on down to its brackets.
+pub fn head_rise(head: &Head) -> usize
+    ensures exact { result ≡ head_rise_of (head_of head.now) }
+    ensures small { result ≤ 2 ^ 33 }
 {
     match head {
-        Head::Type { stars, .. } => 1 + *stars,
-        Head::Member { stars, .. } => 1 + *stars,
+        Head::Type { stars, .. } => 1 + *stars as usize,
+        Head::Member { stars, .. } => 1 + *stars as usize,
     }
 }
 
 /// The nodes from the node's own on down to where its part is missing.
-pub fn rise(waiting: &Waiting) -> u32
-    requires { rise_of (frame_of waiting.now) ≤ 1000 }
-    ensures { result ≡ rise_of (frame_of waiting.now) }
+pub fn rise(waiting: &Waiting) -> usize
+    ensures exact { result ≡ rise_of (frame_of waiting.now) }
+    ensures small { result ≤ 2 ^ 34 }
 {
     match waiting {
-        Waiting::Length(head, dims) => head_rise(head) + (dims.count + 1),
+        Waiting::Length(head, dims) => head_rise(head) + (dims.count as usize + 1),
         _ => 1,
     }
 }
@@ -69,7 +70,7 @@ pub fn push(stack: Stack, waiting: Waiting) -> Result<Stack, NoMemory>
     requires narrow { rise_of (frame_of waiting) ≤ 1000 }
     ensures { IfOk result (λ s. frames s.waiting.items ≡ frame_of waiting ∷ frames stack.waiting.items) }
 {
-    let depth = stack.depth + rise(&waiting);
+    let depth = stack.depth + rise(&waiting) as u32;
     let Stack { waiting: items, .. } = stack;
     let mut items = items;
     push_waiting(&mut items, waiting)?;
@@ -100,7 +101,7 @@ pub fn pop(stack: Stack) -> (Stack, Option<Waiting>)
             None,
         ),
         Some(top) => {
-            let depth = depth - rise(&top);
+            let depth = depth - rise(&top) as u32;
             (
                 Stack {
                     waiting: items,

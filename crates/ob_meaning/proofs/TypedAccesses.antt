@@ -117,7 +117,7 @@ front_holds o g es all = by_cell (listed_cell o g es) (sym (listed_is o g es))
 
 used_ok : (calls : List Call) (rule : Rule) (o : ℕ) (g : ℤ) (w : World) → IsTypedWorld calls w → IsTypedWorld calls (after_outside_load rule o g w)
 used_ok calls vanish o g w ok = ok
-used_ok calls (kept cap) o g w ok = (ok.0, front_holds o g w.outside ok.1, ok.2, ok.3)
+used_ok calls (kept cap) o g w ok = (ok.0, front_holds o g w.outside ok.1, ok.2)
 used_ok calls (unlimited cap) o g w ok = ok
 
 load_gives : (calls : List Call) (t : Target) (rule : Rule) (cycle : List ℕ) (kind : LoadKind) (line : ℕ) (w : World) → IsTypedWorld calls w → GivesIn calls (OfKind kind) (load_at t rule cycle kind line w)
@@ -149,7 +149,7 @@ with_holds o g cell all h = All-set HoldsPointers o.own (unsigned_abs g) cell h 
 own_ok : (calls : List Call) (w : World) (object : ℕ) (g : ℤ) (cell : Cell) → IsTypedWorld calls w → HoldsPointers cell → IsTypedWorld calls (record w { objects = with_own_cell w.objects object g cell })
 own_ok calls w object g cell ok h =
     let o : Object = object_at w.objects object in
-    (All-set HoldsOwn w.objects object (with_own o g cell) (with_holds o g cell (at_objects w.objects object ok.0) h) ok.0, ok.1, ok.2, ok.3)
+    (All-set HoldsOwn w.objects object (with_own o g cell) (with_holds o g cell (at_objects w.objects object ok.0) h) ok.0, ok.1, ok.2)
 
 put_holds : (o : ℕ) (g : ℤ) (cell : Cell) (es : List (Listed Cell)) → All HoldsListed es → HoldsPointers cell → All HoldsListed (put_first o g cell es)
 put_holds o g cell es all h =
@@ -158,9 +158,9 @@ put_holds o g cell es all h =
 put_gives : (calls : List Call) (rule : Rule) (line o : ℕ) (g : ℤ) (cell : Cell) (w : World) → IsTypedWorld calls w → HoldsPointers cell → GivesIn calls Any (put_outside rule line o g cell w)
 put_gives calls vanish line o g cell w ok h = (tt, ok)
 put_gives calls (kept cap) line o g cell w ok h =
-    (tt, (ok.0, All-take HoldsListed cap (put_first o g cell w.outside) (put_holds o g cell w.outside ok.1 h), ok.2, ok.3))
+    (tt, (ok.0, All-take HoldsListed cap (put_first o g cell w.outside) (put_holds o g cell w.outside ok.1 h), ok.2))
 put_gives calls (unlimited cap) line o g cell w ok h =
-    gives_if calls Any (is_some (listed_cell o g w.outside) || nat_lt (length w.outside) cap) (go nothing (record w { outside = put_first o g cell w.outside })) (stop (too_many line) w) (tt, (ok.0, put_holds o g cell w.outside ok.1 h, ok.2, ok.3)) tt
+    gives_if calls Any (is_some (listed_cell o g w.outside) || nat_lt (length w.outside) cap) (go nothing (record w { outside = put_first o g cell w.outside })) (stop (too_many line) w) (tt, (ok.0, put_holds o g cell w.outside ok.1 h, ok.2)) tt
 
 store_gives : (calls : List Call) (t : Target) (rule : Rule) (kind : LoadKind) (line : ℕ) (v : Value) (w : World) → OfKind kind v → IsTypedWorld calls w → GivesIn calls Any (store_at t rule kind line v w)
 store_gives calls dead_object rule kind line v w h ok = tt

@@ -68,7 +68,7 @@ left_ok : (u : Setup) (c : Call) (calls : List Call) (w : World) → IsTypedWorl
 left_ok u c calls w ok =
     let dies = is_among c.first (length (function_at u c.function).locals) in
     let gone = without_ok (c ∷ calls) dies w ok in
-    subst (λ cs. IsTypedWorld calls (left_to u cs w)) (sym ok.3) (gone.0, gone.1, gone.2, refl)
+    subst (λ cs. IsTypedWorld calls (left_to u cs w)) (sym ok.2) (gone.0, gone.1, refl)
 
 returned_gives : (u : Setup) (c : Call) (calls : List Call) (ty : PlainType) (r : Run Flow) → GivesIn (c ∷ calls) (FlowIs (class_of ty)) r → GivesIn calls (HasClass (class_of ty)) (returned u ty r)
 returned_gives u c calls ty (go flow w) h = (result_is ty flow h.0, left_ok u c calls w h.1)
@@ -88,7 +88,7 @@ module _ (u : Setup) (program : IsTypedProgram u) where
         each = λ w ok.
             let made : List Object = automatics u.program.structs (function_at u f).locals vs in
             let c : Call = record { function = f; first = next_number w.objects } in
-            let inside : IsTypedWorld (c ∷ calls) (entered u f vs w) = (All-append HoldsOwn w.objects made ok.0 (automatic_holds u.program.structs (function_at u f).locals vs h), ok.1, ok.2, ap (λ cs. c ∷ cs) ok.3) in
+            let inside : IsTypedWorld (c ∷ calls) (entered u f vs w) = (All-append HoldsOwn w.objects made ok.0 (automatic_holds u.program.structs (function_at u f).locals vs h), ok.1, ap (λ cs. c ∷ cs) ok.2) in
             let body = (typed_exec u (c ∷ calls) m below (function_at u f).body (program f)).each (entered u f vs w) inside in
             choose_gives calls (HasClass (class_of ty)) (nat_lt stack_bytes (allowance_of u f + allowances u w.calls)) (λ w1. returned u ty (exec u m (function_at u f).body (entered u f vs w1))) w (returned_gives u c calls ty (exec u m (function_at u f).body (entered u f vs w)) body);
       }
@@ -131,7 +131,7 @@ static_holds structs o =
     pointers_hold o.image.pointers (granules_of n o.image.bytes) (granules_hold n o.image.bytes)
 
 pub runs_begin_typed : RunsBeginTyped
-runs_begin_typed u place input steps bytes =
+runs_begin_typed u place input steps =
     let statics : List Object = map (static_object u.program.structs) u.program.statics in
     let all : All HoldsOwn statics = All-map HoldsOwn (static_object u.program.structs) u.program.statics (λ k d h. static_holds u.program.structs (slice_index_or u.program.statics k d)) in
-    (All-cons HoldsOwn no_object statics (All-nil HoldsPointers) all, All-nil (λ e. HoldsPointers e.cell), bytes, refl)
+    (All-cons HoldsOwn no_object statics (All-nil HoldsPointers) all, All-nil (λ e. HoldsPointers e.cell), refl)

@@ -1,7 +1,8 @@
 -- Moves, comparisons, the heap, input and output give values of their types.
-use Rattle.std.proofs.Common.{ℕ, ◌+◌, ◌<◌, ◌==◌, ◌&&◌, Bool, true, false, not, nat_lt, ℤ, pos, negsuc, ◌+ℤ◌, List, [], ◌∷◌, length, Option, Some, None, if◌then◌else◌, All, arith}
+use Rattle.std.proofs.Common.{ℕ, ◌+◌, ◌%◌, ◌==◌, ◌&&◌, Bool, true, false, not, nat_lt, ℤ, pos, negsuc, ◌+ℤ◌, List, [], ◌∷◌, length, Option, Some, None, if◌then◌else◌, All, arith}
 use Rattle.std.specs.Ordering.{int_eq}
 use Rattle.std.proofs.lemmas.Int.{ints}
+use Rattle.std.proofs.lemmas.Nat.{mod_below}
 use Rattle.std.proofs.lemmas.List.Elements.{All-append, All-cons, All-filter, All-head, All-nil, All-replicate, All-tail}
 use Rattle.ob_words.specs.declared.types.IntType.TheVariants as type
 use Rattle.ob_words.specs.declared.types.Relation.{Relation}
@@ -78,7 +79,7 @@ new_holds sort n = All-replicate HoldsPointers _ zeros tt
 allocated_gives : (calls : List Call) (place : Option ℕ) (n : ℕ) (w : World) → IsTypedWorld calls w → GivesIn calls IsPointer (allocated_at place n w)
 allocated_gives calls None n w ok = (tt, ok)
 allocated_gives calls (Some place) n w ok =
-    (tt, (All-append HoldsOwn w.objects (new_object Heap n ∷ []) ok.0 (All-cons HoldsOwn (new_object Heap n) [] (new_holds Heap n) (All-nil HoldsOwn)), ok.1, ok.2, ok.3))
+    (tt, (All-append HoldsOwn w.objects (new_object Heap n ∷ []) ok.0 (All-cons HoldsOwn (new_object Heap n) [] (new_holds Heap n) (All-nil HoldsOwn)), ok.1, ok.2))
 
 pub typed_allocated : (calls : List Call) (heap n : ℕ) → Typed calls IsPointer (allocated heap n)
 typed_allocated calls heap n = record { each = λ w ok. allocated_gives calls (place_for w.heap heap n) n w ok }
@@ -97,7 +98,7 @@ HoldsListed e = HoldsPointers e.cell
 
 pub without_ok : (calls : List Call) (dies : ℕ → Bool) (w : World) → IsTypedWorld calls w → IsTypedWorld calls (without dies w)
 without_ok calls dies w ok =
-    (deaths_hold dies 0 w.objects ok.0, All-filter (λ e. not (dies e.object)) HoldsListed w.outside ok.1, ok.2, ok.3)
+    (deaths_hold dies 0 w.objects ok.0, All-filter (λ e. not (dies e.object)) HoldsListed w.outside ok.1, ok.2)
 
 freed_gives : (calls : List Call) (line : ℕ) (p : Value) (w : World) → IsTypedWorld calls w → GivesIn calls Any (freed line p w)
 freed_gives calls line (value.Num n) w ok = (tt, ok)
@@ -116,16 +117,14 @@ typed_free calls line p =
 minus_one : IsNumber type.Int (negsuc 0)
 minus_one = record { from_least = omega (arith, ints); below_past = omega (arith, ints) }
 
-read_gives : (calls : List Call) (input_end : InputEnd) (input : List ℕ) (w : World) → All (λ b. b < 256) input → IsTypedWorld calls w → GivesIn calls (HasClass (class.number type.Int)) (read_byte input_end input w)
-read_gives calls closed (byte ∷ rest) w all ok =
-    (small_number byte (All-head (λ b. b < 256) byte rest all), (ok.0, ok.1, All-tail (λ b. b < 256) byte rest all, ok.3))
-read_gives calls failed (byte ∷ rest) w all ok =
-    (small_number byte (All-head (λ b. b < 256) byte rest all), (ok.0, ok.1, All-tail (λ b. b < 256) byte rest all, ok.3))
-read_gives calls closed [] w all ok = (minus_one, ok)
-read_gives calls failed [] w all ok = tt
+read_gives : (calls : List Call) (input_end : InputEnd) (input : List ℕ) (w : World) → IsTypedWorld calls w → GivesIn calls (HasClass (class.number type.Int)) (read_byte input_end input w)
+read_gives calls closed (byte ∷ rest) w ok = (small_number (byte % 256) (mod_below byte 256 (omega arith)), ok)
+read_gives calls failed (byte ∷ rest) w ok = (small_number (byte % 256) (mod_below byte 256 (omega arith)), ok)
+read_gives calls closed [] w ok = (minus_one, ok)
+read_gives calls failed [] w ok = tt
 
 pub typed_read : (calls : List Call) (input_end : InputEnd) → Typed calls (HasClass (class.number type.Int)) (λ w. read_byte input_end w.input w)
-typed_read calls input_end = record { each = λ w ok. read_gives calls input_end w.input w ok.2 ok }
+typed_read calls input_end = record { each = λ w ok. read_gives calls input_end w.input w ok }
 
 byte_number : (z : ℤ) → IsNumber type.UChar z → IsNumber type.Int z
 byte_number z h = record { from_least = omega (arith, ints, h.from_least); below_past = omega (arith, ints, h.below_past) }

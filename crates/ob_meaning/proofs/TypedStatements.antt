@@ -73,8 +73,8 @@ module _ (u : Setup) (calls : List Call) where
     cleared_ok Void object w ok = ok
     cleared_ok (Int t) object w ok = ok
     cleared_ok (Pointer t) object w ok = ok
-    cleared_ok (Array t k) object w ok = (wiped_holds w.objects object ok.0, ok.1, ok.2, ok.3)
-    cleared_ok (Struct k) object w ok = (wiped_holds w.objects object ok.0, ok.1, ok.2, ok.3)
+    cleared_ok (Array t k) object w ok = (wiped_holds w.objects object ok.0, ok.1, ok.2)
+    cleared_ok (Struct k) object w ok = (wiped_holds w.objects object ok.0, ok.1, ok.2)
 
     typed_local_init : (i : ℕ) (item : TypedInit) → IsTypedInit u (slice_index_or (running u calls).locals i Void) item → Typed calls Any (initialise_local u m i item)
     typed_local_init i item h =
@@ -82,7 +82,7 @@ module _ (u : Setup) (calls : List Call) where
           each = λ w ok.
               let t : PlainType = local_type u w i in
               let object : ℕ = first_local w.calls + i in
-              let fits : IsTypedInit u t item = subst (λ cs. IsTypedInit u (slice_index_or (running u cs).locals i Void) item) (sym ok.3) h in
+              let fits : IsTypedInit u t item = subst (λ cs. IsTypedInit u (slice_index_or (running u cs).locals i Void) item) (sym ok.2) h in
               (typed_init item t (at_object object) fits).each (cleared t object w) (cleared_ok t object w ok);
         }
 

@@ -1,6 +1,6 @@
 -- The objects of the heap (C99 7.20.3), input and output (7.19.7), and `exit` (7.20.4.3). A new object lies at the first place
 -- that fits; its place decides whether there is room, and nothing else.
-use Rattle.std.specs.Prelude.{ℕ, ◌==◌, ◌&&◌, Bool, true, false, pos, negsuc, unsigned_abs, List, [], ◌∷◌, ◌++◌, Option, Some, None, if◌then◌else◌}
+use Rattle.std.specs.Prelude.{ℕ, ◌%◌, ◌==◌, ◌&&◌, Bool, true, false, pos, negsuc, unsigned_abs, List, [], ◌∷◌, ◌++◌, Option, Some, None, if◌then◌else◌}
 use Rattle.std.specs.Ordering.{int_eq}
 use Rattle.ob_words.specs.declared.types.IntType.TheVariants.{Int, UChar, ULong}
 use Rattle.ob_words.specs.Conversion.{convert}
@@ -56,9 +56,9 @@ free line p w = if is_dead w.objects p then stop (dead line) w else freed line p
 
 -- ---- input, output and `exit`
 
--- the next byte, or -1 at the end
+-- the next byte, or -1 at the end; a source gives bytes alone, but the list may be any: each of its numbers counts modulo 256
 abbrev pub read_byte : InputEnd → List ℕ → World → Run Value
-read_byte input_end (byte ∷ rest) w = go (value.Num (pos byte)) (record w { input = rest })
+read_byte input_end (byte ∷ rest) w = go (value.Num (pos (byte % 256))) (record w { input = rest })
 read_byte closed [] w = go (value.Num (negsuc 0)) w
 read_byte failed [] w = stop (plain ReadFault) w
 

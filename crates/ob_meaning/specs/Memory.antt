@@ -25,10 +25,7 @@ new_object sort size = record { size = size; sort = sort; alive = true; own = re
 abbrev pub no_object : Object
 no_object = record { size = 0; sort = Static; alive = false; own = [] }
 
--- The objects made so far stand in a list at their numbers. None has number 0.
-abbrev pub no_objects : List Object
-no_objects = no_object ∷ []
-
+-- the objects made so far stand in a list at their numbers; none has number 0
 abbrev pub object_at : List Object → ℕ → Object
 object_at objects object = slice_index_or objects object no_object
 

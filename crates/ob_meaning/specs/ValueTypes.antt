@@ -1,7 +1,7 @@
 -- Which values the expressions of a typed program give (C99 6.2.5): a number of its type where an expression has an integer type,
 -- null or a pointer where it has a pointer type. This holds of a program whose nodes have the types that are given below for
 -- their parts, as far as values depend on them; typing (6.5) asks more.
-use Rattle.std.specs.Prelude.{◌≡◌, ℕ, ◌+◌, ◌<◌, List, [], ◌∷◌, All, Option, Some, None, slice_index_or}
+use Rattle.std.specs.Prelude.{◌≡◌, ℕ, ◌+◌, List, [], ◌∷◌, All, Option, Some, None, slice_index_or}
 use Rattle.ob_words.specs.declared.types.IntType.{IntType}
 use Rattle.ob_words.specs.declared.types.IntType.TheVariants as type
 use Rattle.ob_words.specs.Types.{IsNumber}
@@ -177,12 +177,11 @@ abbrev pub HoldsPointers : Cell → Type 0
 HoldsPointers (cell.pointer p) = HasClass pointer p
 HoldsPointers (cell.bytes es) = Unit {0}
 
--- the granules hold pointers, the input holds bytes, and these calls are in progress
+-- the granules hold pointers, and these calls are in progress
 abbrev pub IsTypedWorld : List Call → World → Type 0
 IsTypedWorld calls w =
     All (λ o. All HoldsPointers o.own) w.objects
     × All (λ e. HoldsPointers e.cell) w.outside
-    × All (λ b. b < 256) w.input
     × (w.calls ≡ calls)
 
 -- an act that goes on gives what is meant, and leaves the world so
@@ -217,5 +216,4 @@ CallsHaveTypes =
 abbrev pub RunsBeginTyped : Type 0
 RunsBeginTyped =
     (u : Setup) (place : ℕ) (input : List ℕ) (steps : ℕ) →
-    All (λ b. b < 256) input →
     IsTypedWorld [] (first_world u place input steps)

@@ -165,8 +165,7 @@ pub fn law_scalars()
 {}
 
 /// In a typed program an expression of an integer type gives a number of that type, and one of a pointer
-/// type gives null or a pointer; so do calls. A run begins in a world of which this holds, where its input
-/// is bytes.
+/// type gives null or a pointer; so do calls. A run begins in a world of which this holds, on any input.
 pub fn law_values()
     ensures expressions { ValuesHaveTypes }
     ensures calls { CallsHaveTypes }

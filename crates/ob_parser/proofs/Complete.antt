@@ -27,7 +27,8 @@ use Rattle.ob_parser.proofs.Most.{node-most, most, spec-most, option-most, start
 use Rattle.ob_parser.proofs.Shapes.{names_before, if_open, while_open, for_open, definition_spell, frame_spell, stack_spell, owner_spell, declaration_spell, Takes, Stands, OwnerOk, MayBe, DeclarationOk}
 use Rattle.ob_parser.proofs.Adding.{statement-spelled, statement-valid, statement-begun, local-spelled, local-valid, local-begun, item-spelled, item-begun, all-more, name-spelled, name-begun}
 use Rattle.ob_parser.proofs.Sound.{all-objects, valid-names, valid-more}
-use Rattle.ob_parser.proofs.SoundStatements.{takes-any, takes-block, define-valid, define-spelled}
+use Rattle.ob_parser.proofs.SoundUses.{takes-any, takes-block}
+use Rattle.ob_parser.proofs.SoundStatements.{define-valid, define-spelled}
 
 -- some program begins with these tokens, and at most m nodes of a path have begun with them
 abbrev pub Completes : (m : ℕ) → List TokenKind → Type 0

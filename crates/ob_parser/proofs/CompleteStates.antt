@@ -28,7 +28,7 @@ use Rattle.ob_parser.specs.Loads.{load_stack, listing_load, target_depth, lists_
 use Rattle.ob_parser.proofs.Most.{node-most, dims-most, init-most, option-most, start-most, stmt-most, param-most, function-most}
 use Rattle.ob_parser.proofs.Shapes.{if_open, while_open, for_open, stack_spell, declaration_spell, listing_spell, head_spell, lists_spell, spec_use_spell, opening_spell, use_spell, semi_spell, state_spell, TakesStmt, Stands, DeclarationOk, ListingOk, SpecUseOk, IsTest, UseOk, SemiOk, StateOk}
 use Rattle.ob_parser.proofs.Adding.{open-valid, dim-begun}
-use Rattle.ob_parser.proofs.SoundStatements.{takes-any, use-low}
+use Rattle.ob_parser.proofs.SoundUses.{takes-any, use-low}
 use Rattle.ob_parser.proofs.Complete.{Completes, completes-same, empty, complete-stmt, complete-declaration, complete-name}
 use Rattle.ob_parser.proofs.CompleteNames.{complete-init, complete-param, complete-head, complete-spec}
 

@@ -1,8 +1,12 @@
 -- The answer that the parser of programs owes for a list of tokens.
-use Rattle.std.specs.Prelude.{ℕ, ◌≤◌, ◌<◌, List, length}
+use Rattle.std.specs.Prelude.{ℕ, ◌≤◌, ◌<◌, List, length, Result, Ok, Err}
+use Rattle.ob_tree.specs.declared.faults.SyntaxFault.{SyntaxFault}
+use Rattle.ob_tree.specs.declared.faults.SyntaxFault.TheVariants as fault
+use Rattle.ob_tree.specs.declared.programs.Program.{Program}
 use Rattle.ob_tree.specs.declared.tokens.Token.{Token}
 use Rattle.ob_tree.specs.Programs.{ProgramTree}
 use Rattle.ob_tree.specs.ProgramPaths.{height_program}
+use Rattle.ob_tree.specs.ProgramView.{program_tree}
 use Rattle.ob_tree.specs.Fronts.{greatest_path}
 use Rattle.ob_tree.specs.ProgramFronts.{FrontProgram, DeepFrontProgram, IsTreeOf}
 
@@ -23,3 +27,10 @@ abbrev pub IsAnswer : List Token → Answer → Type 0
 IsAnswer tokens (Answer.Parsed p) = IsTreeOf tokens p × (height_program p ≤ greatest_path)
 IsAnswer tokens (Answer.NoTree i) = IsFirst tokens i × (DeepFrontProgram tokens i → ⊥)
 IsAnswer tokens (Answer.TooDeep i) = IsFirst tokens i × DeepFrontProgram tokens i
+
+-- what the parser gives: the right answer, or want of memory
+abbrev pub ParsedProgram : List Token → Result Program SyntaxFault → Type 0
+ParsedProgram tokens (Ok p) = IsAnswer tokens (Answer.Parsed (program_tree p))
+ParsedProgram tokens (Err (fault.NoTree i)) = IsAnswer tokens (Answer.NoTree i)
+ParsedProgram tokens (Err (fault.TooDeep i)) = IsAnswer tokens (Answer.TooDeep i)
+ParsedProgram tokens (Err fault.NoMemory) = Unit {0}

@@ -1,2 +1,4 @@
 pub mod Loads
 pub mod Answer
+pub mod View
+pub mod Steps

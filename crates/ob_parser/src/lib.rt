@@ -5,5 +5,11 @@
 #![tactic(auto)]
 
 pub use laws::{law_one_answer, law_some_answer};
+pub use parser::parse;
 
+mod declarations;
 mod laws;
+mod parser;
+mod state;
+mod statements;
+mod steps;

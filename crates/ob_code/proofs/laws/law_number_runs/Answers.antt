@@ -18,3 +18,7 @@ returns-clause-displacements c = ((refl, refl), (refl, refl))
 pub returns-clause-input : goal.returns-clause-input
 unfolding convert residue from_bytes low_bytes
 returns-clause-input c = ((refl, refl), (refl, refl))
+
+pub returns-clause-bytes : goal.returns-clause-bytes
+unfolding convert residue from_bytes low_bytes
+returns-clause-bytes c = (refl, refl)

@@ -1,0 +1,279 @@
+use ob_base::Text;
+use ob_tree::{BlockItem, Dim, Expr, FileDecl, ForStart, Init, Item, Param, Params, Spec, Stmt};
+
+/// Where a token stands: its place, counted from 0, and its line.
+#[derive(Clone, Copy, Debug, PartialEq, Eq)]
+pub struct Place {
+    pub at: u32,
+    pub line: u32,
+}
+
+/// What stands before the body of a function, and the external declarations before it.
+#[derive(Drop)]
+pub struct Definition {
+    pub items: Vec<Item>,
+    pub first: u32,
+    pub line: u32,
+    pub fixed: bool,
+    pub spec: Spec,
+    pub stars: u32,
+    pub name: Text,
+    pub at: u32,
+    pub params: Params,
+}
+
+/// A statement or a function that waits for its last part. `first` and `line` are those of the
+/// statement's first token.
+#[derive(Drop)]
+pub enum Frame {
+    Body(Definition),
+    Block {
+        first: u32,
+        line: u32,
+        items: Vec<BlockItem>,
+    },
+    If {
+        first: u32,
+        line: u32,
+        test: Expr,
+    },
+    Else {
+        first: u32,
+        line: u32,
+        test: Expr,
+        then: Stmt,
+    },
+    While {
+        first: u32,
+        line: u32,
+        test: Expr,
+    },
+    Do {
+        first: u32,
+        line: u32,
+    },
+    For {
+        first: u32,
+        line: u32,
+        start: ForStart,
+        test: Option<Expr>,
+        next: Option<Expr>,
+    },
+}
+
+/// Where a declaration stands: behind other external declarations, behind other items of a block,
+/// or first in a `for`. The frames are those of the statements round it, the innermost last.
+#[derive(Drop)]
+pub enum Owner {
+    Outer(Vec<Item>),
+    Inner {
+        first: u32,
+        line: u32,
+        items: Vec<BlockItem>,
+        frames: Vec<Frame>,
+    },
+    Start {
+        first: u32,
+        line: u32,
+        frames: Vec<Frame>,
+    },
+}
+
+/// A declaration that has begun; `fixed` says that `static` stands first.
+#[derive(Drop)]
+pub struct Heading {
+    pub owner: Owner,
+    pub first: u32,
+    pub line: u32,
+    pub fixed: bool,
+}
+
+/// A declaration whose specifier was read, with the declarators before this one.
+#[derive(Drop)]
+pub struct Declaration {
+    pub heading: Heading,
+    pub spec: Spec,
+    pub names: Vec<FileDecl>,
+}
+
+/// A declarator whose name was read.
+#[derive(Drop)]
+pub struct Declarator {
+    pub declaration: Declaration,
+    pub stars: u32,
+    pub name: Text,
+    pub at: u32,
+}
+
+/// A function declarator, with the parameters before this one.
+#[derive(Drop)]
+pub struct Listing {
+    pub function: Declarator,
+    pub params: Vec<Param>,
+}
+
+/// What a row of brackets stands behind: the name of a declarator, or a parameter's stars and name.
+#[derive(Drop)]
+pub enum Head {
+    Name(Declarator),
+    Param {
+        listing: Listing,
+        first: u32,
+        line: u32,
+        spec: Spec,
+        stars: u32,
+        name: Option<Text>,
+        at: u32,
+    },
+}
+
+/// A declarator that is initialised.
+#[derive(Drop)]
+pub struct Target {
+    pub declarator: Declarator,
+    pub dims: Vec<Dim>,
+}
+
+/// An initialiser list that has begun, with the items before this one.
+#[derive(Drop)]
+pub struct Braces {
+    pub first: u32,
+    pub items: Vec<Init>,
+}
+
+/// What a specifier is read for.
+#[derive(Drop)]
+pub enum SpecUse {
+    Declaration(Heading),
+    Param {
+        listing: Listing,
+        first: u32,
+        line: u32,
+    },
+}
+
+/// What an expression is read for.
+#[derive(Drop)]
+pub enum Use {
+    Statement {
+        first: u32,
+        line: u32,
+        frames: Vec<Frame>,
+    },
+    IfTest {
+        first: u32,
+        line: u32,
+        frames: Vec<Frame>,
+    },
+    WhileTest {
+        first: u32,
+        line: u32,
+        frames: Vec<Frame>,
+    },
+    DoTest {
+        first: u32,
+        line: u32,
+        body: Stmt,
+        frames: Vec<Frame>,
+    },
+    ForStart {
+        first: u32,
+        line: u32,
+        frames: Vec<Frame>,
+    },
+    ForTest {
+        first: u32,
+        line: u32,
+        start: ForStart,
+        frames: Vec<Frame>,
+    },
+    ForNext {
+        first: u32,
+        line: u32,
+        start: ForStart,
+        test: Option<Expr>,
+        frames: Vec<Frame>,
+    },
+    Return {
+        first: u32,
+        line: u32,
+        frames: Vec<Frame>,
+    },
+    /// An array length, behind these brackets.
+    Length {
+        head: Head,
+        dims: Vec<Dim>,
+    },
+    /// An initialiser, within these lists, the innermost last.
+    Item {
+        target: Target,
+        lists: Vec<Braces>,
+    },
+}
+
+/// What comes next, or what was read last.
+#[derive(Drop)]
+pub enum State {
+    /// An external declaration comes, or the end.
+    Items(Vec<Item>),
+    /// A specifier comes.
+    Specifying(SpecUse),
+    /// A declarator's stars were read.
+    Declare(Declaration, u32),
+    /// A row of brackets was read.
+    Dims(Head, Vec<Dim>),
+    /// An expression comes, or nothing.
+    Optional(Use),
+    /// An expression comes.
+    Reading(Use),
+    /// An initialiser comes.
+    Init(Target, Vec<Braces>),
+    /// A list of initialisers was read whole.
+    AfterInit(Target, Vec<Braces>, Init),
+    /// The opening parenthesis of parameters was read.
+    Params(Listing),
+    /// A comma was read behind a parameter.
+    NextParam(Listing),
+    /// A parameter's specifier and stars were read.
+    Param {
+        listing: Listing,
+        first: u32,
+        line: u32,
+        spec: Spec,
+        stars: u32,
+    },
+    /// The closing parenthesis of parameters was read.
+    Closed(Declarator, Params),
+    /// A statement comes or, in a block, a declaration or the block's end.
+    Begin(Vec<Frame>),
+    /// The parenthesis before a test comes.
+    Opening(Use),
+    /// `for` was read.
+    ForWord {
+        first: u32,
+        line: u32,
+        frames: Vec<Frame>,
+    },
+    /// `for` and its opening parenthesis were read.
+    ForOpen {
+        first: u32,
+        line: u32,
+        frames: Vec<Frame>,
+    },
+    /// A statement was read but for its semicolon.
+    Semi(Stmt, Vec<Frame>),
+    /// A statement was read; it may be the last part of others that have begun.
+    Done(Stmt, Vec<Frame>),
+}
+
+/// What one token leads to.
+#[derive(Drop)]
+pub enum Step {
+    Goes(State),
+    /// An expression for this begins with the token, if any does.
+    Reads(Use),
+    /// A specifier for this begins with the token, if any does.
+    Specifies(SpecUse),
+    /// No program goes on so.
+    Stuck,
+}
