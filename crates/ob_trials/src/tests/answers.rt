@@ -7,6 +7,9 @@ use ob_tree::SyntaxFault;
 use std::alloc::{AllocError, Global};
 use std::fmt::Write;
 
+/// The greatest length of a source, in bytes.
+pub const LIMIT: usize = 1_048_576;
+
 /// Where a parser begins: at a token, under so many nodes.
 #[derive(Clone, Copy)]
 pub struct Start {
@@ -27,7 +30,7 @@ pub enum Part {
     Marks,
 }
 
-fn show_fault(shown: &mut Shown, fault: SyntaxFault) -> Result<(), AllocError> {
+pub fn show_fault(shown: &mut Shown, fault: SyntaxFault) -> Result<(), AllocError> {
     match fault {
         SyntaxFault::NoTree(at) => write!(shown.text, "NoTree {at}"),
         SyntaxFault::TooDeep(at) => write!(shown.text, "TooDeep {at}"),
@@ -45,7 +48,7 @@ pub fn expr_answer(
 ) -> Result<String, AllocError> {
     let mut shown = Shown::new(alloc, part == Part::Marks);
     let bytes = source.as_bytes();
-    if bytes.len() > 1_048_576 || start.depth > 256 {
+    if bytes.len() > LIMIT || start.depth > 256 {
         return Ok(shown.text);
     }
     let Ok(tokens) = lex(alloc, bytes) else {
@@ -76,7 +79,7 @@ pub fn spec_answer(
 ) -> Result<String, AllocError> {
     let mut shown = Shown::new(alloc, part == Part::Marks);
     let bytes = source.as_bytes();
-    if bytes.len() > 1_048_576 || start.depth > 256 {
+    if bytes.len() > LIMIT || start.depth > 256 {
         return Ok(shown.text);
     }
     let Ok(tokens) = lex(alloc, bytes) else {

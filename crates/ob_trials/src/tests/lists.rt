@@ -93,13 +93,30 @@ fn compare(
     Ok(compared)
 }
 
-/// The tokens of the lists that are compared all.
-const LETTERS: &str = "x()[+=?:s";
-
 #[test]
 fn agrees_on_all_lists(rt: HostRuntime) -> Result<(), Fail> {
     let comma = Sort::Expr(Level::Comma);
-    let count = compare(&rt, rt.alloc(), comma, Grown::All, LETTERS, 3)?;
-    assert_eq!(rt; count, 820);
+    let count = compare(&rt, rt.alloc(), comma, Grown::All, "x()=?:,", 4)?;
+    assert_eq!(rt; count, 2_801);
+    Ok(())
+}
+
+#[test]
+fn agrees_on_fronts(rt: HostRuntime) -> Result<(), Fail> {
+    let comma = Sort::Expr(Level::Comma);
+    let count = compare(&rt, rt.alloc(), comma, Grown::Fronts, "x(),=?:si", 5)?;
+    assert_eq!(rt; count, 1_639);
+    let count = compare(&rt, rt.alloc(), Sort::Spec, Grown::Fronts, "ilutx{};*[1],", 6)?;
+    assert_eq!(rt; count, 1_054);
+    Ok(())
+}
+
+#[test]
+fn agrees_at_other_levels(rt: HostRuntime) -> Result<(), Fail> {
+    for level in [Level::Assign, Level::Cond] {
+        let sort = Sort::Expr(level);
+        let count = compare(&rt, rt.alloc(), sort, Grown::All, "x()[+=?:,", 3)?;
+        assert_eq!(rt; count, 820);
+    }
     Ok(())
 }

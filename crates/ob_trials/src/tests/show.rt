@@ -11,7 +11,7 @@ use std::fmt::Write;
 #[derive(Drop)]
 pub struct Shown {
     pub text: String,
-    marks: bool,
+    pub marks: bool,
 }
 
 impl Shown {
@@ -22,11 +22,11 @@ impl Shown {
         }
     }
 
-    fn put(&mut self, piece: &str) -> Result<(), AllocError> {
+    pub fn put(&mut self, piece: &str) -> Result<(), AllocError> {
         self.text.push_str(piece)
     }
 
-    fn put_text(&mut self, text: &Text) -> Result<(), AllocError> {
+    pub fn put_text(&mut self, text: &Text) -> Result<(), AllocError> {
         for byte in text.bytes() {
             self.text.push(*byte as char)?;
         }
@@ -48,6 +48,12 @@ impl Shown {
         self.put(behind)
     }
 
+    fn put_name(&mut self, sign: Sign, name: &Text) -> Result<(), AllocError> {
+        self.put_sign(" ", sign, " ")?;
+        self.put_text(name)?;
+        self.put("}")
+    }
+
     fn put_mark(&mut self, e: &Expr) -> Result<(), AllocError> {
         if self.marks {
             let first = e.first;
@@ -58,10 +64,10 @@ impl Shown {
         Ok(())
     }
 
-    fn put_first(&mut self, spec: &Spec) -> Result<(), AllocError> {
+    /// The place of a token, as a mark.
+    pub fn put_place(&mut self, place: u32) -> Result<(), AllocError> {
         if self.marks {
-            let first = spec.first;
-            write!(self.text, ".{first}")?;
+            write!(self.text, ".{place}")?;
         }
         Ok(())
     }
@@ -73,7 +79,7 @@ impl Shown {
         self.put_stars(count)
     }
 
-    fn put_stars(&mut self, count: u32) -> Result<(), AllocError> {
+    pub fn put_stars(&mut self, count: u32) -> Result<(), AllocError> {
         for _ in 0..count {
             self.put("*")?;
         }
@@ -107,17 +113,46 @@ pub fn show_expr(out: &mut Shown, e: &Expr) -> Result<(), AllocError> {
         ExprNode::Null => out.put("NULL")?,
         ExprNode::Eof => out.put("EOF")?,
         ExprNode::Str(strings) => out.put_strings(strings)?,
-        ExprNode::Paren(inner) => show_paren(out, inner)?,
-        ExprNode::Index(base, index) => show_pair(out, base, Sign::OpenBracket, index)?,
+        ExprNode::Paren(inner) => {
+            out.put("(")?;
+            show_expr(out, inner)?;
+            out.put(")")?;
+        }
+        ExprNode::Index(base, index) => {
+            show_left(out, base)?;
+            show_right(out, Sign::OpenBracket, index)?;
+        }
         ExprNode::Call(name, arguments) => {
             out.put_text(name)?;
             show_arguments(out, arguments)?;
         }
-        ExprNode::Member(base, name) => show_member(out, base, Sign::Dot, name)?,
-        ExprNode::Arrow(base, name) => show_member(out, base, Sign::Arrow, name)?,
-        ExprNode::Step { post, down, e } => show_step(out, *post, step_sign(*down), e)?,
-        ExprNode::Unary(sign, operand) => show_step(out, false, *sign, operand)?,
-        ExprNode::SizeExpr(operand) => show_size(out, operand)?,
+        ExprNode::Member(base, name) => {
+            show_left(out, base)?;
+            out.put_name(Sign::Dot, name)?;
+        }
+        ExprNode::Arrow(base, name) => {
+            show_left(out, base)?;
+            out.put_name(Sign::Arrow, name)?;
+        }
+        ExprNode::Step {
+            post: true,
+            down,
+            e,
+        } => {
+            show_left(out, e)?;
+            out.put_sign(" ", step_sign(*down), "}")?;
+        }
+        ExprNode::Step {
+            post: false,
+            down,
+            e,
+        } => show_prefix(out, step_sign(*down), e)?,
+        ExprNode::Unary(sign, operand) => show_prefix(out, *sign, operand)?,
+        ExprNode::SizeExpr(operand) => {
+            out.put("{Sizeof ")?;
+            show_expr(out, operand)?;
+            out.put("}")?;
+        }
         ExprNode::SizeType(name) => {
             out.put("{Sizeof ")?;
             show_type(out, name)?;
@@ -130,67 +165,45 @@ pub fn show_expr(out: &mut Shown, e: &Expr) -> Result<(), AllocError> {
             show_expr(out, operand)?;
             out.put("}")?;
         }
-        ExprNode::Binary(sign, left, right) => show_pair(out, left, *sign, right)?,
-        ExprNode::Cond(test, then, other) => show_cond(out, test, then, other)?,
-        ExprNode::Assign(sign, left, right) => show_pair(out, left, *sign, right)?,
-        ExprNode::Comma(left, right) => show_pair(out, left, Sign::Comma, right)?,
+        ExprNode::Binary(sign, left, right) => {
+            show_left(out, left)?;
+            show_right(out, *sign, right)?;
+        }
+        ExprNode::Cond(test, then, other) => {
+            show_left(out, test)?;
+            out.put_sign(" ", Sign::Question, " ")?;
+            show_expr(out, then)?;
+            show_right(out, Sign::Colon, other)?;
+        }
+        ExprNode::Assign(sign, left, right) => {
+            show_left(out, left)?;
+            show_right(out, *sign, right)?;
+        }
+        ExprNode::Comma(left, right) => {
+            show_left(out, left)?;
+            show_right(out, Sign::Comma, right)?;
+        }
     }
     out.put_mark(e)
 }
 
 #[cycle(show)]
-fn show_paren(out: &mut Shown, inner: &Expr) -> Result<(), AllocError> {
-    out.put("(")?;
-    show_expr(out, inner)?;
-    out.put(")")
+fn show_left(out: &mut Shown, left: &Expr) -> Result<(), AllocError> {
+    out.put("{")?;
+    show_expr(out, left)
 }
 
 #[cycle(show)]
-fn show_pair(out: &mut Shown, left: &Expr, sign: Sign, right: &Expr) -> Result<(), AllocError> {
-    out.put("{")?;
-    show_expr(out, left)?;
+fn show_right(out: &mut Shown, sign: Sign, right: &Expr) -> Result<(), AllocError> {
     out.put_sign(" ", sign, " ")?;
     show_expr(out, right)?;
     out.put("}")
 }
 
 #[cycle(show)]
-fn show_member(out: &mut Shown, base: &Expr, sign: Sign, name: &Text) -> Result<(), AllocError> {
-    out.put("{")?;
-    show_expr(out, base)?;
-    out.put_sign(" ", sign, " ")?;
-    out.put_text(name)?;
-    out.put("}")
-}
-
-#[cycle(show)]
-fn show_step(out: &mut Shown, post: bool, sign: Sign, e: &Expr) -> Result<(), AllocError> {
-    out.put("{")?;
-    if post {
-        show_expr(out, e)?;
-        out.put_sign(" ", sign, "")?;
-    } else {
-        out.put_sign("", sign, " ")?;
-        show_expr(out, e)?;
-    }
-    out.put("}")
-}
-
-#[cycle(show)]
-fn show_size(out: &mut Shown, operand: &Expr) -> Result<(), AllocError> {
-    out.put("{Sizeof ")?;
+fn show_prefix(out: &mut Shown, sign: Sign, operand: &Expr) -> Result<(), AllocError> {
+    out.put_sign("{", sign, " ")?;
     show_expr(out, operand)?;
-    out.put("}")
-}
-
-#[cycle(show)]
-fn show_cond(out: &mut Shown, test: &Expr, then: &Expr, other: &Expr) -> Result<(), AllocError> {
-    out.put("{")?;
-    show_expr(out, test)?;
-    out.put_sign(" ", Sign::Question, " ")?;
-    show_expr(out, then)?;
-    out.put_sign(" ", Sign::Colon, " ")?;
-    show_expr(out, other)?;
     out.put("}")
 }
 
@@ -237,7 +250,7 @@ pub fn show_spec(out: &mut Shown, spec: &Spec) -> Result<(), AllocError> {
             out.put("}")?;
         }
     }
-    out.put_first(spec)
+    out.put_place(spec.first)
 }
 
 #[cycle(show)]
@@ -250,20 +263,17 @@ fn show_line(out: &mut Shown, member: &MemberDecl) -> Result<(), AllocError> {
     out.put(";")
 }
 
-/// The declarator of a member, which has no initialiser.
+/// A declarator without its initialiser.
 #[cycle(show)]
-fn show_name(out: &mut Shown, name: &ObjDecl) -> Result<(), AllocError> {
+pub fn show_name(out: &mut Shown, name: &ObjDecl) -> Result<(), AllocError> {
     out.put_stars(name.stars)?;
     out.put_text(&name.name)?;
-    if out.marks {
-        let at = name.at;
-        write!(out.text, ".{at}")?;
-    }
+    out.put_place(name.at)?;
     show_dims(out, &name.dims)
 }
 
 #[cycle(show)]
-fn show_dims(out: &mut Shown, dims: &[Dim]) -> Result<(), AllocError> {
+pub fn show_dims(out: &mut Shown, dims: &[Dim]) -> Result<(), AllocError> {
     for dim in dims {
         out.put("[")?;
         if let Some(length) = &dim.length {
