@@ -16,4 +16,5 @@ pub mod NumberPieces
 pub mod QuotePieces
 pub mod Scanning
 pub mod SourceTokens
+pub mod SomeReading
 pub mod PlaceLemmas

@@ -51,3 +51,9 @@ pub fn law_one_reading()
     ensures no_fault { (text : List ℕ) (ts : List Token) (kind : LexKind) (at : ℕ) → Spells ts text → StopsAt text kind at → ⊥ }
     ensures one_fault { (text : List ℕ) (k l : LexKind) (i j : ℕ) → StopsAt text k i → StopsAt text l j → (k ≡ l) × (i ≡ j) }
 {}
+
+/// The law that each text has a reading: tokens spell it, or a run of its longest pieces stops at a
+/// fault.
+pub fn law_some_reading()
+    ensures { (text : List ℕ) → ((ts : List Token) × Spells ts text) ⊎ ((kind : LexKind) × (at : ℕ) × StopsAt text kind at) }
+{}

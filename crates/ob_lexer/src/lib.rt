@@ -6,7 +6,7 @@
 //! the grammar of texts, on `ob_words` for the types of constants, and on `ob_base` for byte lists.
 #![tactic(auto)]
 
-pub use lexer::{law_one_reading, lex};
+pub use lexer::{law_one_reading, law_some_reading, lex};
 
 mod bytes;
 mod comments;

@@ -1,9 +1,8 @@
 -- What goes through the buffers: nothing, a byte, and one exchange after another.
-use Rattle.std.proofs.Common.{◌≡◌, ◌≢◌, ℕ, ◌+◌, ◌-◌, ◌^◌, Bool, true, false, List, [], ◌∷◌, ◌++◌, length, take, Option, Some, None, Result, Ok, Err, refl, sym, ap, ◌∙◌, subst, append_assoc}
+use Rattle.std.proofs.Common.{◌≡◌, ◌≢◌, ℕ, ◌-◌, ◌%◌, ◌^◌, Bool, true, false, List, [], ◌∷◌, ◌++◌, Option, Some, None, Result, Ok, Err, refl, sym, ap, ◌∙◌, subst, append_assoc}
 use Rattle.std.specs.Prelude.{MatchBool, MatchOption}
-use Rattle.std.specs.Io.KnownBytes.{append_known, prepend_known, IsAtEnd}
+use Rattle.std.specs.Io.KnownBytes.{prepend_known, IsAtEnd}
 use Rattle.std.proofs.lemmas.List.{append-nil, append_cancel_left}
-use Rattle.ob_base.specs.Sink.{Tally}
 use Rattle.ob_base.proofs.Appending.{append_known-nil, tally_known-nil}
 use Rattle.ob_model.specs.declared.endings.Ending.{Ending}
 use Rattle.ob_model.specs.declared.endings.Ending.TheVariants.{Steps}
@@ -13,12 +12,11 @@ use Rattle.ob_code.specs.State.{Next, State, goes, stops}
 use Rattle.ob_machine.specs.declared.execution.Execution.{Execution}
 use Rattle.ob_machine.specs.declared.ports.Fault.{Fault}
 use Rattle.ob_machine.specs.declared.ports.Fault.TheVariants.{Read, Write}
-use Rattle.ob_machine.specs.Buffers.{IsFilled, IsUsedUp, Unread}
+use Rattle.ob_machine.specs.Buffers.{IsUsedUp, Unread}
 use Rattle.ob_machine.specs.Executions.{Beside, Is, state_of, word_of_byte}
 use Rattle.ob_machine.specs.Exchanges.{Advances, Answers, CanFollow, Devices, IsRefilled, KnowsEnd, Moves, Puts, having_written, reading}
-use Rattle.ob_machine.specs.Output.{SentOrPending}
 use Rattle.ob_machine.proofs.Handed.{ticked_once}
-use Rattle.ob_machine.proofs.Interpreted.{sent_none}
+use Rattle.ob_machine.proofs.Sent.{sent_none}
 
 prepend-nil : (known : Option (List ℕ)) → known ≡ prepend_known [] known
 prepend-nil None = refl
@@ -75,7 +73,7 @@ pub still_next : (d : Devices) → KnowsEnd d.unread d.left → ¬ IsUsedUp d.un
 still_next d knows h =
     record { read = []; moves = still d knows; joined = append-nil d.unread.bytes; ended = not_used d.unread.at_end d.unread.bytes h }
 
-byte_taken : (input_end : InputEnd) (byte : ℕ) (rest : List ℕ) (a : ℕ) (t : State) → get_char input_end (byte ∷ rest) a t ≡ set_word (record t { input = rest }) a byte
+byte_taken : (input_end : InputEnd) (byte : ℕ) (rest : List ℕ) (a : ℕ) (t : State) → get_char input_end (byte ∷ rest) a t ≡ set_word (record t { input = rest }) a (byte % 256)
 byte_taken closed byte rest a t = refl
 byte_taken failed byte rest a t = refl
 

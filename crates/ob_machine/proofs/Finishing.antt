@@ -1,5 +1,5 @@
 -- Where a run comes to, from what its loop answers.
-use Rattle.std.proofs.Common.{◌≡◌, ℕ, ◌+◌, ◌≤◌, true, List, [], ◌++◌, length, Option, Some, None, refl, sym, ap, ◌∙◌, subst, arith, inl, inr}
+use Rattle.std.proofs.Common.{◌≡◌, ℕ, ◌≤◌, List, [], ◌++◌, Option, Some, None, refl, sym, ap, ◌∙◌, subst, arith, inl, inr}
 use Rattle.std.specs.Io.KnownBytes.{append_known, IsAtEnd}
 use Rattle.ob_base.specs.Faults.{Rose}
 use Rattle.ob_base.specs.Sink.{Tally, TakesPrefix, tally_known}
@@ -12,10 +12,10 @@ use Rattle.ob_machine.specs.declared.execution.Execution.{Execution}
 use Rattle.ob_machine.specs.Buffers.{Unread}
 use Rattle.ob_machine.specs.Devices.{AreTold, Reading, Writing, IsWritten}
 use Rattle.ob_machine.specs.Exchanges.{CanFollow, Devices, KnowsEnd, RunEnds, RunFailsToRead, RunFailsToWrite, having_written, reading}
-use Rattle.ob_machine.specs.Executions.{Beside, state_of}
-use Rattle.ob_machine.specs.Finished.{Broken, ComesOut, Ended, at_start}
-use Rattle.ob_machine.specs.Output.{SentOrPending}
-use Rattle.ob_machine.proofs.Interpreted.{flush_prefix, sent_prefix}
+use Rattle.ob_machine.specs.Executions.{state_of}
+use Rattle.ob_machine.specs.Finished.{ComesOut, at_start}
+use Rattle.ob_machine.specs.Buffers.{SentOrPending}
+use Rattle.ob_machine.proofs.Sent.{flush_prefix, sent_prefix}
 
 -- what a source still has, where it tells it
 abbrev rest_of : Option (List ℕ) → List ℕ

@@ -1,30 +1,26 @@
 -- A run that goes on, instruction by instruction, and where it ends.
-use Rattle.std.proofs.Common.{◌≡◌, ℕ, zero, suc, ◌+◌, ◌-◌, ◌*◌, ◌<◌, ◌≤◌, ◌^◌, Bool, true, List, [], ◌∷◌, ◌++◌, length, Option, Some, None, Result, Ok, Err, slice_get, refl, sym, ap, ◌∙◌, subst, arith, append_assoc}
+use Rattle.std.proofs.Common.{◌≡◌, ℕ, suc, ◌+◌, ◌≤◌, List, [], ◌++◌, Option, Some, None, slice_get, refl, sym, ap, ◌∙◌, subst, arith, append_assoc}
 use Rattle.std.specs.Io.KnownBytes.{append_known, prepend_known, IsAtEnd}
 use Rattle.std.proofs.lemmas.List.{append-nil}
 use Rattle.ob_base.specs.Faults.{Rose}
 use Rattle.ob_base.specs.Sink.{Tally, TakesPrefix, tally_known}
-use Rattle.ob_base.proofs.Appending.{append_known-nil, tally_known-nil}
 use Rattle.ob_model.specs.declared.endings.Ending.{Ending}
-use Rattle.ob_model.specs.declared.endings.Ending.TheVariants.{ReadFault, Spent}
+use Rattle.ob_model.specs.declared.endings.Ending.TheVariants.{Spent}
 use Rattle.ob_model.specs.declared.settings.Mode.TheVariants.{Oblivious}
 use Rattle.ob_model.specs.declared.settings.RunSettings.{RunSettings}
 use Rattle.ob_model.specs.Endings.{Begins, InputEnd, closed, failed}
 use Rattle.ob_code.specs.declared.image.Image.{Image}
 use Rattle.ob_code.specs.Machine.{after, counted, runs, step}
 use Rattle.ob_code.specs.Rules.{IsVerified}
-use Rattle.ob_code.specs.State.{Final, Next, State, goes, stops}
+use Rattle.ob_code.specs.State.{Final, State, goes}
 use Rattle.ob_space.specs.Loaded.{Loaded}
 use Rattle.ob_machine.specs.declared.execution.Execution.{Execution}
-use Rattle.ob_machine.specs.declared.ports.Fault.{Fault}
-use Rattle.ob_machine.specs.declared.ports.Fault.TheVariants.{Read, Write}
-use Rattle.ob_machine.specs.Buffers.{Unread}
 use Rattle.ob_machine.specs.Effects.{IsReady}
-use Rattle.ob_machine.specs.Exchanges.{Advances, Answers, CanFollow, Devices, FailsToRead, FailsToWrite, KnowsEnd, Moves, RunAnswers, RunEnds, RunFailsToRead, RunFailsToWrite, begun, having_written, reading}
-use Rattle.ob_machine.specs.Executions.{Beside, Is, SameRows, setup, state_of}
-use Rattle.ob_machine.specs.Output.{SentOrPending}
+use Rattle.ob_machine.specs.Exchanges.{Advances, CanFollow, Devices, FailsToRead, KnowsEnd, Moves, RunEnds, RunFailsToRead, RunFailsToWrite, begun, having_written, reading}
+use Rattle.ob_machine.specs.Executions.{Beside, SameRows, setup, state_of}
+use Rattle.ob_machine.specs.Buffers.{SentOrPending}
 use Rattle.ob_machine.proofs.Exchanged.{nothing_written, still}
-use Rattle.ob_machine.proofs.Interpreted.{flush_prefix, sent_then}
+use Rattle.ob_machine.proofs.Sent.{flush_prefix, sent_then}
 use Rattle.ob_machine.proofs.Reached.{step_placed}
 use Rattle.ob_machine.proofs.WholeRuns.{runs_count, runs_follow}
 use Rattle.ob_machine.proofs.Stepped.{does}

@@ -1,5 +1,5 @@
 -- Where the loop of a run comes to, turn by turn, and how a run starts.
-use Rattle.std.proofs.Common.{◌≡◌, ℕ, zero, suc, ◌+◌, ◌-◌, ◌*◌, ◌<◌, ◌≤◌, ◌^◌, List, [], ◌++◌, length, Option, Some, None, Result, Ok, Err, refl, sym, ap, ◌∙◌, subst, arith}
+use Rattle.std.proofs.Common.{◌≡◌, ℕ, suc, ◌+◌, ◌-◌, ◌*◌, ◌<◌, ◌≤◌, ◌^◌, List, [], ◌++◌, Option, Some, None, Result, Ok, Err, sym, ap, ◌∙◌, subst, arith}
 use Rattle.std.specs.Prelude.{IfNone}
 use Rattle.ob_base.specs.Faults.{Rose}
 use Rattle.ob_base.specs.Sink.{TakesPrefix}
@@ -15,7 +15,7 @@ use Rattle.ob_machine.specs.declared.execution.Execution.{Execution}
 use Rattle.ob_machine.specs.declared.ports.Fault.{Fault}
 use Rattle.ob_machine.specs.declared.ports.Fault.TheVariants.{Read, Write}
 use Rattle.ob_machine.specs.Effects.{IsReady}
-use Rattle.ob_machine.specs.Exchanges.{Advances, Answers, Devices, KnowsEnd, RunAnswers, RunEnds, RunFailsToWrite, begun, having_written, reading}
+use Rattle.ob_machine.specs.Exchanges.{Advances, Answers, Devices, KnowsEnd, RunAnswers, RunEnds, RunFailsToWrite, begun}
 use Rattle.ob_machine.specs.Executions.{Beside, Is, SameRows, setup, state_of}
 use Rattle.ob_machine.proofs.Exchanged.{nothing_written, still}
 use Rattle.ob_machine.proofs.Going.{Going, counts_none, counts_one, going_end, going_on, going_read, going_write, none_beside}

@@ -1,5 +1,5 @@
 -- Taking a step, and the words that a call hands over, one after another.
-use Rattle.std.proofs.Common.{◌≡◌, ℕ, zero, suc, ◌+◌, ◌-◌, ◌<◌, List, [], ◌∷◌, ◌++◌, length, drop, get_or, refl, sym, ap, ◌∙◌, subst, arith, add-one, drop-cons}
+use Rattle.std.proofs.Common.{◌≡◌, ℕ, zero, suc, ◌+◌, ◌-◌, ◌<◌, List, [], ◌∷◌, ◌++◌, length, drop, get_or, refl, sym, ap, ◌∙◌, arith, add-one, drop-cons}
 use Rattle.ob_code.specs.Frames.{frame_word, with_word, with_words, words_from}
 use Rattle.ob_code.specs.Machine.{ticked}
 use Rattle.ob_code.specs.State.{Next, Space, State}

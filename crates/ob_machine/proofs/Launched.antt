@@ -1,5 +1,5 @@
 -- What a machine's run gives, from what its execution comes to.
-use Rattle.std.proofs.Common.{◌≡◌, ℕ, ◌+◌, ◌*◌, ◌<◌, ◌≤◌, ◌^◌, ◌⊎◌, Bool, false, List, [], ◌∷◌, length, refl, sym, ap, ◌∙◌, subst, arith, inl, inr}
+use Rattle.std.proofs.Common.{◌≡◌, ℕ, ◌+◌, ◌*◌, ◌<◌, ◌≤◌, ◌^◌, ◌⊎◌, Bool, false, List, [], length, sym, ap, ◌∙◌, subst, arith, inl, inr}
 use Rattle.ob_base.specs.Faults.{Rose}
 use Rattle.ob_model.specs.declared.endings.Ending.{Ending}
 use Rattle.ob_model.specs.declared.endings.Ending.TheVariants.{NoMemory, ReadFault, Spent, WriteFault}
@@ -17,7 +17,7 @@ use Rattle.ob_machine.specs.declared.ports.Ports.{Ports}
 use Rattle.ob_machine.specs.Devices.{IsInput, Reading, Writing}
 use Rattle.ob_machine.specs.Executions.{SameRows, setup, state_of}
 use Rattle.ob_machine.specs.Finished.{Broken, ComesOut, Ended, at_start}
-use Rattle.ob_machine.specs.Machines.{ComesTo, MachineState, RunsOn, used}
+use Rattle.ob_machine.specs.Machines.{ComesTo, MachineState, RunsOn}
 use Rattle.ob_machine.specs.Wiring.{IsUnused}
 use Rattle.ob_machine.proofs.Reached.{first_next, no_calls}
 use Rattle.ob_machine.proofs.Tells.{CanEnd}

@@ -1,6 +1,4 @@
-pub mod Lowered
-pub mod Interpreted
-pub mod IntRange
+pub mod Sent
 pub mod Filled
 pub mod Tells
 pub mod Placed

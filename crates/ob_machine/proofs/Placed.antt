@@ -27,7 +27,7 @@ use Rattle.ob_code.specs.Machine as machine
 use Rattle.ob_code.specs.Pointers as pointers
 use Rattle.ob_code.specs.Rules.{AreOperandsSound, IsBelow, IsCodeOf, IsInstructionSound, IsLast, IsPlaceOf, code_end, IsVerified, instruction_at, words_of, IsWritten}
 use Rattle.ob_code.specs.State.{Call, Setup, Space, State, Next, goes, stops}
-use Rattle.ob_machine.specs.Progress.{AreLinked, IsInnermost, IsLink, IsPlaced, IsReturnPlace}
+use Rattle.ob_machine.specs.Progress.{AreLinked, IsInnermost, IsLink, IsPlaced}
 
 -- the instruction at a place of a function is sound there
 sound_there : (image : Image) (f at : ℕ) (i : Instr) → IsVerified image → IsCodeOf image f at → slice_get image.code at ≡ Some i → AreOperandsSound image f i × (at + 1 ≡ code_end image f → IsLast i)
@@ -304,7 +304,7 @@ module _ (u : Setup) (v : IsVerified u.image) (s : State) (placed : IsPlaced u.i
   act_on (instr.Move a b) is = goes_on (instr.Move a b) is (λ x. x) _ refl refl (omega arith)
   act_on (instr.Convert kind a b) is = goes_on (instr.Convert kind a b) is (λ x. x) _ refl refl (omega arith)
   act_on (instr.Binary kind operator a b c) is =
-      set_result u.image (binary operator kind (machine.get_number kind s b) (machine.right_number operator kind s c)) a s
+      set_result u.image (binary operator kind (machine.get_number kind s b) (machine.right_number operator kind (machine.get s c))) a s
       (λ w. goes_on (instr.Binary kind operator a b c) is (λ x. x) _ refl refl (omega arith))
   act_on (instr.Compare kind relation a b c) is = goes_on (instr.Compare kind relation a b c) is (λ x. x) _ refl refl (omega arith)
   act_on (instr.Jump imm) is = goes_to imm (λ f here. (sound_there u.image f s.counter (instr.Jump imm) v here is).0)

@@ -1,7 +1,6 @@
 -- The states of a run on a verified image are placed.
-use Rattle.std.proofs.Common.{◌≡◌, ℕ, zero, suc, ◌+◌, ◌*◌, ◌<◌, ◌≤◌, slice_get, List, [], ◌∷◌, length, Option, Some, None, arith, refl, sym, ◌∙◌, ap, subst, inl, inr}
+use Rattle.std.proofs.Common.{◌≡◌, ℕ, zero, suc, ◌+◌, ◌<◌, slice_get, List, [], ◌∷◌, length, Some, arith, refl, sym, ◌∙◌, ap, subst}
 use Rattle.std.proofs.lemmas.Option.{slice_get-get_or}
-use Rattle.ob_model.specs.Entries.{with_entry}
 use Rattle.ob_model.specs.declared.settings.RunSettings.{RunSettings}
 use Rattle.ob_words.specs.Words.{block}
 use Rattle.ob_code.specs.declared.image.Image.{Image}
@@ -10,9 +9,9 @@ use Rattle.ob_code.specs.declared.image.StaticRow.{StaticRow}
 use Rattle.ob_code.specs.declared.instructions.Instr.TheVariants.{Tick}
 use Rattle.ob_code.specs.Machine as machine
 use Rattle.ob_code.specs.Machine.{counted, entering, step}
-use Rattle.ob_code.specs.Rules.{IsCodeOf, IsVerified, code_end, instruction_at}
-use Rattle.ob_code.specs.Start.{fresh, laid_out, stack_bytes, started, with_bytes, with_statics}
-use Rattle.ob_code.specs.State.{Call, Next, Setup, Space, State, goes, stops}
+use Rattle.ob_code.specs.Rules.{IsVerified, instruction_at}
+use Rattle.ob_code.specs.Start.{fresh, laid_out, stack_bytes, started, with_statics}
+use Rattle.ob_code.specs.State.{Call, Setup, Space, State, goes}
 use Rattle.ob_machine.specs.Progress.{AreLinked, IsInnermost, IsLink, IsPlaced, Leads, Reaches}
 use Rattle.ob_machine.proofs.Placed as placed
 use Rattle.ob_machine.proofs.Placed.{Goes, Stays, act_on, in_code, numbers}

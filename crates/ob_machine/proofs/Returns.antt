@@ -1,5 +1,5 @@
 -- Where a call returns to.
-use Rattle.std.proofs.Common.{◌≡◌, ℕ, ◌+◌, ◌-◌, ◌<◌, slice_get, List, [], ◌∷◌, length, Option, Some, None, refl, sym, ap, ◌∙◌, subst, arith}
+use Rattle.std.proofs.Common.{◌≡◌, ℕ, ◌-◌, ◌<◌, slice_get, List, [], ◌∷◌, length, Some, None, refl, sym, ap, ◌∙◌, subst, arith}
 use Rattle.ob_words.specs.declared.types.IntType.TheVariants.{Int}
 use Rattle.ob_words.specs.Words.{number}
 use Rattle.ob_model.specs.declared.endings.Ending.TheVariants.{Ended}
@@ -7,7 +7,7 @@ use Rattle.ob_code.specs.declared.image.Image.{Image}
 use Rattle.ob_code.specs.Frames.{left_call, top_function}
 use Rattle.ob_code.specs.Machine.{jump, landed, result_word, returned, set_word}
 use Rattle.ob_code.specs.Rules.{IsWritten}
-use Rattle.ob_code.specs.State.{Call, Space, State, goes, stops}
+use Rattle.ob_code.specs.State.{Call, Space, State, stops}
 use Rattle.ob_space.specs.Loaded.{Loaded, left, left_top, top_link, top_words}
 use Rattle.ob_machine.specs.declared.execution.Execution.{Execution}
 use Rattle.ob_machine.specs.Executions.{Beside, state_of}

@@ -1,5 +1,5 @@
 -- What holds of each instruction on any image: the output so far stays, the count of instructions too, and only some endings come.
-use Rattle.std.proofs.Common.{◌≡◌, ℕ, zero, suc, ◌+◌, ◌*◌, ◌%◌, ◌≤◌, Bool, true, false, cond, ℤ, ◌+ℤ◌, ◌*ℤ◌, unsigned_abs, slice_get, List, [], ◌∷◌, ◌++◌, length, Option, Some, None, Result, Ok, Err, refl, sym, ◌∙◌}
+use Rattle.std.proofs.Common.{◌≡◌, ℕ, zero, suc, ◌+◌, ◌*◌, ◌%◌, Bool, true, false, cond, ℤ, ◌+ℤ◌, ◌*ℤ◌, unsigned_abs, List, [], ◌∷◌, Option, Some, None, Result, Ok, Err, refl, sym, ◌∙◌}
 use Rattle.std.proofs.lemmas.List.{append-nil}
 use Rattle.ob_words.specs.declared.types.DivideByZero.{DivideByZero}
 use Rattle.ob_words.specs.declared.types.IntType.TheVariants.{Int, Long}
@@ -17,11 +17,11 @@ use Rattle.ob_code.specs.declared.image.Image.{Image}
 use Rattle.ob_code.specs.declared.instructions.Instr.{Instr}
 use Rattle.ob_code.specs.declared.instructions.Instr.TheVariants as instr
 use Rattle.ob_code.specs.Accesses.{Access, too_far, access, event_of, found_word, space_after_load}
-use Rattle.ob_code.specs.Allocation.{Freeing, free_event, freeing, space_after_free}
+use Rattle.ob_code.specs.Allocation.{Freeing, free_event, freeing}
 use Rattle.ob_code.specs.Frames.{entered, function_at, is_full, left_call, with_words, words_from}
 use Rattle.ob_code.specs.Machine as machine
 use Rattle.ob_code.specs.Pointers as pointers
-use Rattle.ob_code.specs.State.{Call, Setup, Space, State, Next, goes, stops}
+use Rattle.ob_code.specs.State.{Call, Setup, State, Next, goes, stops}
 
 -- the endings that an instruction gives, on an input that ends so
 abbrev pub CanEnd : InputEnd → Ending → Type 0
@@ -126,7 +126,7 @@ act_on u (Some instr.Tick) s = ticked u.input_end s.steps s (λ t. goes (machine
 act_on u (Some (instr.Set a imm)) s = quiet s _ refl refl
 act_on u (Some (instr.Move a b)) s = quiet s _ refl refl
 act_on u (Some (instr.Convert kind a b)) s = quiet s _ refl refl
-act_on u (Some (instr.Binary kind operator a b c)) s = set_result u.input_end (binary operator kind (machine.get_number kind s b) (machine.right_number operator kind s c)) a s
+act_on u (Some (instr.Binary kind operator a b c)) s = set_result u.input_end (binary operator kind (machine.get_number kind s b) (machine.right_number operator kind (machine.get s c))) a s
 act_on u (Some (instr.Compare kind relation a b c)) s = quiet s _ refl refl
 act_on u (Some (instr.Jump imm)) s = quiet s _ refl refl
 act_on u (Some (instr.JumpZero b imm)) s =

@@ -1,7 +1,6 @@
 -- Whole runs on any image: the output so far stays, instructions are counted, and only some endings come.
-use Rattle.std.proofs.Common.{◌≡◌, ℕ, zero, suc, ◌+◌, ◌≤◌, ◌⊎◌, slice_get, List, [], ◌∷◌, ◌++◌, length, arith, refl, sym, ◌∙◌, ap, subst, append_assoc, inl, inr}
+use Rattle.std.proofs.Common.{◌≡◌, ℕ, zero, suc, ◌+◌, ◌≤◌, ◌⊎◌, slice_get, List, [], ◌++◌, length, arith, refl, sym, ◌∙◌, ap, subst, append_assoc, inl, inr}
 use Rattle.std.proofs.lemmas.List.{append-nil}
-use Rattle.ob_model.specs.declared.endings.Ending.{Ending}
 use Rattle.ob_model.specs.declared.endings.Ending.TheVariants.{Spent}
 use Rattle.ob_model.specs.Endings.{Begins}
 use Rattle.ob_code.specs.Machine.{after, counted, entering, runs, step}

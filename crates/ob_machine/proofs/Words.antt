@@ -1,60 +1,20 @@
 -- Results as words, and the integers that they are computed with, which fit their types.
-use Rattle.std.proofs.Common.{◌≡◌, ℕ, ◌*◌, ◌+◌, ◌^◌, ◌<◌, ◌≤◌, Bool, true, false, cond, Option, Some, None, Result, Ok, Err, ℤ, pos, ◌+ℤ◌, ◌*ℤ◌, unsigned_abs, w64, to_z, of_z, refl, sym, ap, ◌∙◌, arith}
+use Rattle.std.proofs.Common.{◌≡◌, ℕ, ◌*◌, ◌^◌, ◌<◌, ◌≤◌, Bool, true, false, cond, Some, None, Result, Ok, Err, ℤ, ◌+ℤ◌, ◌*ℤ◌, unsigned_abs, w64, to_z, of_z, refl, ap, ◌∙◌, arith}
 use Rattle.std.proofs.Math.Nat.{mul-le-mul}
 use Rattle.std.specs.Prelude.{FitsSigned}
 use mir.Val.{bool_byte}
 use Rattle.std.specs.Int.{w128}
-use Rattle.std.proofs.lemmas.Int.{ints, fits_signed_from_abs, fits_signed_mul, to_z-of_z, unsigned_abs-mul}
+use Rattle.std.proofs.lemmas.Int.{ints, fits_signed_from_abs, to_z-of_z, unsigned_abs-mul}
 use borrow.Author.Differences.{abs_is}
-use Rattle.ob_words.specs.declared.types.BinOp.{BinOp}
-use Rattle.ob_words.specs.declared.types.BinOp.TheVariants.{Add, Sub, Mul, Div, Rem, And, Or, Xor, Shl, Shr}
 use Rattle.ob_words.specs.declared.types.DivideByZero.{DivideByZero}
-use Rattle.ob_words.specs.declared.types.IntType.{IntType}
 use Rattle.ob_words.specs.declared.types.IntType.TheVariants.{Long}
-use Rattle.ob_words.specs.Operators.{shifts}
 use Rattle.ob_words.specs.Types.{IsNumber}
-use Rattle.ob_words.specs.Words.{number, word}
+use Rattle.ob_words.specs.Words.{word}
 use Rattle.ob_model.specs.declared.endings.Ending.TheVariants as ending
 use Rattle.ob_model.specs.Accesses.{is_far}
-use Rattle.ob_code.specs.Machine.{flag, get, right_number, set_result, set_word, slide}
-use Rattle.ob_code.specs.State.{Next, State, goes, stops}
-use Rattle.ob_machine.specs.Executions.{near_word, result_word, right_of}
-
-pub right_of_other : (op : BinOp) (t : IntType) (w : ℕ) → shifts op ≡ false → right_of op t w ≡ number t w
-right_of_other Add t w e = refl
-right_of_other Sub t w e = refl
-right_of_other Mul t w e = refl
-right_of_other Div t w e = refl
-right_of_other Rem t w e = refl
-right_of_other And t w e = refl
-right_of_other Or t w e = refl
-right_of_other Xor t w e = refl
-right_of_other Shl t w e = cc
-right_of_other Shr t w e = cc
-
-pub right_of_shift : (op : BinOp) (t : IntType) (w : ℕ) → shifts op ≡ true → right_of op t w ≡ pos w
-right_of_shift Add t w e = cc
-right_of_shift Sub t w e = cc
-right_of_shift Mul t w e = cc
-right_of_shift Div t w e = cc
-right_of_shift Rem t w e = cc
-right_of_shift And t w e = cc
-right_of_shift Or t w e = cc
-right_of_shift Xor t w e = cc
-right_of_shift Shl t w e = refl
-right_of_shift Shr t w e = refl
-
-pub right_number_is : (op : BinOp) (t : IntType) (s : State) (c : ℕ) → right_number op t s c ≡ right_of op t (get s c)
-right_number_is Add t s c = refl
-right_number_is Sub t s c = refl
-right_number_is Mul t s c = refl
-right_number_is Div t s c = refl
-right_number_is Rem t s c = refl
-right_number_is And t s c = refl
-right_number_is Or t s c = refl
-right_number_is Xor t s c = refl
-right_number_is Shl t s c = refl
-right_number_is Shr t s c = refl
+use Rattle.ob_code.specs.Machine.{flag, set_result, set_word, slide}
+use Rattle.ob_code.specs.State.{State, stops}
+use Rattle.ob_machine.specs.Executions.{near_word, result_word}
 
 -- a truth value as a word
 pub flag_is : (b : Bool) → bool_byte b ≡ flag b
@@ -66,24 +26,13 @@ pub set_result_some : (r : Result ℤ DivideByZero) (a w : ℕ) (s : State) → 
 set_result_some (Ok n) a w s e = let same : word n ≡ w = cc in ap (set_word s a) same
 set_result_some (Err d) a w s e = cc
 
-pub set_result_none : (r : Result ℤ DivideByZero) (a : ℕ) (s : State) → result_word r ≡ None → set_result r a s ≡ stops ending.Divide s
-set_result_none (Ok n) a s e = cc
-set_result_none (Err d) a s e = refl
-
 near_some : (far : Bool) (d : ℤ) (a w : ℕ) (s : State) → cond far None (Some (word d)) ≡ Some w → cond far (stops ending.Far s) (set_word s a (word d)) ≡ set_word s a w
 near_some true d a w s e = cc
 near_some false d a w s e = let same : word d ≡ w = cc in ap (set_word s a) same
 
-near_none : (far : Bool) (d : ℤ) (a : ℕ) (s : State) → cond far None (Some (word d)) ≡ None → cond far (stops ending.Far s) (set_word s a (word d)) ≡ stops ending.Far s
-near_none true d a s e = refl
-near_none false d a s e = cc
-
 -- a displacement by its word
 pub slide_some : (d : ℤ) (a w : ℕ) (s : State) → near_word d ≡ Some w → slide d a s ≡ set_word s a w
 slide_some d a w s e = near_some (is_far d) d a w s e
-
-pub slide_none : (d : ℤ) (a : ℕ) (s : State) → near_word d ≡ None → slide d a s ≡ stops ending.Far s
-slide_none d a s e = near_none (is_far d) d a s e
 
 -- a displacement, a size and their product fit
 product_bound : (size count : ℤ) → unsigned_abs size ≤ 4194304 → unsigned_abs count ≤ 2 ^ 63 → unsigned_abs (size *ℤ count) ≤ 4194304 * 2 ^ 63

@@ -1,6 +1,7 @@
--- The buffer between a source and a run.
-use Rattle.std.specs.Prelude.{◌≡◌, ◌≢◌, ℕ, Bool, false, List, [], Option, MatchBool}
-use Rattle.std.specs.Io.KnownBytes.{IsAtEnd}
+-- The buffers between a run and its devices.
+use Rattle.std.specs.Prelude.{◌≡◌, ◌≢◌, ℕ, Bool, false, List, [], ◌++◌, Option, MatchBool}
+use Rattle.std.specs.Io.KnownBytes.{IsAtEnd, append_known}
+use Rattle.ob_base.specs.Sink.{Tally, tally_known}
 
 -- bytes that were read and that the program didn't take yet, and whether the source's end was met
 pub record Unread : Type 0 where
@@ -18,3 +19,10 @@ pub record IsUsedUp (u : Unread) : Type 0 where
 -- after a read: the end is met where it gave nothing, and then the source has no more
 abbrev pub IsFilled : Unread → Option (List ℕ) → Type 0
 IsFilled u left = MatchBool u.at_end ((u.bytes ≡ []) × IsAtEnd left) (u.bytes ≢ [])
+
+-- the sink took and tallied some bytes, and these and the pending ones are the bytes that were put
+pub record SentOrPending (taken_before taken_now : Option (List ℕ)) (tally_before tally_now : Option Tally) (pending bytes : List ℕ) : Type 0 where
+  pub sent : List ℕ
+  pub took : taken_now ≡ append_known taken_before sent
+  pub tallied : tally_now ≡ tally_known tally_before sent
+  pub rest : sent ++ pending ≡ bytes

@@ -11,9 +11,8 @@ use Rattle.ob_machine.specs.declared.execution.Execution.{Execution}
 use Rattle.ob_machine.specs.declared.ports.Fault.{Fault}
 use Rattle.ob_machine.specs.declared.ports.Fault.TheVariants.{Read, Write}
 use Rattle.ob_machine.specs.declared.ports.Ports.{Ports}
-use Rattle.ob_machine.specs.Buffers.{IsFilled, Unread}
+use Rattle.ob_machine.specs.Buffers.{IsFilled, SentOrPending, Unread}
 use Rattle.ob_machine.specs.Executions.{Beside, Is, state_of}
-use Rattle.ob_machine.specs.Output.{SentOrPending}
 
 -- what the buffers hold, and what the source and the sink tell
 pub record Devices : Type 0 where

@@ -1,10 +1,7 @@
 -- A run in progress as the program keeps it, and the state of the definition's that it stands for.
-use Rattle.std.specs.Prelude.{◌≡◌, ℕ, ◌-◌, ◌^◌, ℤ, List, [], ◌∷◌, Option, Some, None, Result, Ok, Err, if◌then◌else◌, pos}
-use Rattle.ob_words.specs.declared.types.BinOp.{BinOp}
-use Rattle.ob_words.specs.declared.types.BinOp.TheVariants.{Shl, Shr}
+use Rattle.std.specs.Prelude.{◌≡◌, ℕ, ◌-◌, ◌%◌, ◌^◌, ℤ, List, [], ◌∷◌, Option, Some, None, Result, Ok, Err, if◌then◌else◌}
 use Rattle.ob_words.specs.declared.types.DivideByZero.{DivideByZero}
-use Rattle.ob_words.specs.declared.types.IntType.{IntType}
-use Rattle.ob_words.specs.Words.{number, word}
+use Rattle.ob_words.specs.Words.{word}
 use Rattle.ob_model.specs.Accesses.{is_far}
 use Rattle.ob_model.specs.declared.endings.Ending.{Ending}
 use Rattle.ob_model.specs.declared.settings.RunSettings.{RunSettings}
@@ -51,12 +48,6 @@ top_number (c ∷ cs) = c.function
 
 -- ---- results as words
 
--- the right operand of an operator: a shift takes the whole word
-abbrev pub right_of : BinOp → IntType → ℕ → ℤ
-right_of Shl t w = pos w
-right_of Shr t w = pos w
-right_of _ t w = number t w
-
 -- the word of a result, and of a displacement that isn't too far
 abbrev pub result_word : Result ℤ DivideByZero → Option ℕ
 result_word (Ok n) = Some (word n)
@@ -65,7 +56,7 @@ result_word (Err e) = None
 abbrev pub near_word : ℤ → Option ℕ
 near_word d = if is_far d then None else Some (word d)
 
--- what a byte that was read puts into a word: the byte, and -1 at the end
+-- what a byte that was read puts into a word, and -1 at the end
 abbrev pub word_of_byte : Option ℕ → ℕ
-word_of_byte (Some byte) = byte
+word_of_byte (Some byte) = byte % 256
 word_of_byte None = 2 ^ 64 - 1

@@ -1,5 +1,3 @@
-pub mod Output
-pub mod First
 pub mod Buffers
 pub mod Devices
 pub mod Machines

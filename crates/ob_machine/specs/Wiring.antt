@@ -1,5 +1,5 @@
 -- What holds of a machine's parts between its calls.
-use Rattle.std.specs.Prelude.{◌≡◌, ℕ, ◌<◌, ◌≤◌, Bool, true, List, []}
+use Rattle.std.specs.Prelude.{◌≡◌, Bool, true, []}
 use Rattle.std.specs.Vec.{vec_capacity}
 use Rattle.ob_model.specs.Settings.{IsFit}
 use Rattle.ob_code.specs.declared.image.Image.{Image}

@@ -3,7 +3,8 @@ ghost use Rattle.ob_words.specs.Operators.{binary, compare, shifts};
 ghost use Rattle.ob_words.specs.Types.{IsNumber};
 ghost use Rattle.ob_words.specs.Words.{number, word};
 ghost use Rattle.ob_words.specs.declared.types.IntType.TheVariants.{Int, Long};
-ghost use Rattle.ob_machine.specs.Executions.{near_word, result_word, right_of};
+ghost use Rattle.ob_code.specs.Machine.{right_number};
+ghost use Rattle.ob_machine.specs.Executions.{near_word, result_word};
 
 use ob_words::{BinOp, IntType, Relation, binary, compare, convert, word};
 
@@ -39,7 +40,7 @@ fn shifts(operator: BinOp) -> bool
 }
 
 fn right(operator: BinOp, t: IntType, w: u64) -> i128
-    ensures value { result ≡ right_of operator t w }
+    ensures value { result ≡ right_number operator t w }
     ensures range { IsFalse (shifts operator) → IsNumber t result }
 {
     if shifts(operator) {
@@ -51,7 +52,7 @@ fn right(operator: BinOp, t: IntType, w: u64) -> i128
 
 /// The word of what an operator gives in type `t`; none where it divides by zero.
 pub(crate) fn computed(operator: BinOp, t: IntType, x: u64, y: u64) -> Option<u64>
-    ensures { result ≡ result_word (binary operator t (number t x) (right_of operator t y)) }
+    ensures { result ≡ result_word (binary operator t (number t x) (right_number operator t y)) }
 {
     match binary(operator, t, number(t, x), right(operator, t, y)) {
         Ok(n) => Some(word(n)),

@@ -69,7 +69,7 @@ impl Execution {
         requires left { b < top_words self.old.space }
         requires right { c < top_words self.old.space }
         requires counter { self.old.counter < 2 ^ 32 }
-        ensures state { (r : Beside) → Is result (set_result (binary operator t (get_number t (state_of self.old r) b) (right_number operator t (state_of self.old r) c)) a (state_of self.old r)) self.new r }
+        ensures state { (r : Beside) → Is result (set_result (binary operator t (get_number t (state_of self.old r) b) (right_number operator t (get (state_of self.old r) c))) a (state_of self.old r)) self.new r }
         ensures rows { SameRows self.old.space self.new.space }
     {
         let Some(w) = computed(operator, t, self.word(b), self.word(c)) else {

@@ -1,14 +1,12 @@
 //! The machine that runs images. `Machine::run` is exactly the run that the definition of the flat
 //! machine gives for the image: its ending, its output, its memory and the number of its instructions.
 //! Input and output go through buffers of 4,096 bytes; after `load` the machine takes no memory. The laws
-//! say where a run's instructions stand and when a run is spent. Beside it stands the machine with one
-//! number that runs the sources that are compiled so far.
+//! say where a run's instructions stand and when a run is spent.
 //!
 //! Stands on `ob_space` for memory, on `ob_code` for images and the definition, on `ob_model` for endings,
-//! on `ob_base` for devices, on `ob_words` for arithmetic, and on `ob_tree` for sources.
+//! on `ob_base` for devices, and on `ob_words` for arithmetic.
 #![tactic(auto)]
 
-pub use first::{FirstEnd, FirstInstr, lower_first, run_code};
 pub use laws::{law_places, law_spent};
 pub use machine::Machine;
 
@@ -17,10 +15,8 @@ mod arithmetic;
 mod buffers;
 mod calls;
 mod execution;
-mod first;
 mod laws;
 mod machine;
-mod output;
 mod ports;
 mod runs;
 mod steps;

@@ -1,27 +1,13 @@
-//! That the calls find memory, what a first source writes, and how devices that fail end a run.
+//! That the calls find memory, how devices that fail end a run, and that nothing is read after the end.
 
-use crate::{FirstEnd, Machine, lower_first, run_code};
-use ob_base::{MemSink, MemSource};
+use crate::Machine;
+use ob_base::{MemSink, MemSource, Source};
 use ob_code::{FunctionRow, Image, Instr, Rows, Verified, verify};
 use ob_model::{Ending, Mode, RunSettings};
-use ob_tree::parse_first;
-use ob_words::{IntType, Relation};
+use ob_words::{BinOp, IntType, Relation};
 use std::alloc::{AllocError, Global};
 use std::process::Abort;
 use std::test::Fail;
-
-#[test]
-fn hello_writes_hi(rt: HostRuntime) -> Result<(), Fail> {
-    let text =
-        b"int main(void){putchar(72);putchar(2147483647+2147483647+107);return 2147483647+2;}";
-    let source = parse_first(rt.alloc(), text)?;
-    let code = lower_first(rt.alloc(), &source)?;
-    let mut sink = MemSink::new(rt.alloc(), 1_048_576, &[], 1)?;
-    let end = run_code(rt.alloc(), &code, &mut sink);
-    assert_eq!(rt; end, FirstEnd::Ended(-2_147_483_647));
-    assert_eq!(rt; sink.taken(), b"Hi".as_slice());
-    Ok(())
-}
 
 // Writes what it reads, to the end of the input.
 const ECHO: [Instr; 8] = [
@@ -41,7 +27,22 @@ const ECHO: [Instr; 8] = [
     Instr::Return { b: 2 },
 ];
 
-fn echo(alloc: Global) -> Result<Image, AllocError> {
+// Reads three times, and gives the sum of the last two.
+const READ_ON: [Instr; 5] = [
+    Instr::GetChar { a: 2 },
+    Instr::GetChar { a: 2 },
+    Instr::GetChar { a: 3 },
+    Instr::Binary {
+        kind: IntType::Int,
+        operator: BinOp::Add,
+        a: 2,
+        b: 2,
+        c: 3,
+    },
+    Instr::Return { b: 2 },
+];
+
+fn image(alloc: Global, code: &[Instr]) -> Result<Image, AllocError> {
     let mut functions = Vec::new(alloc);
     functions.push(FunctionRow {
         entry: 0,
@@ -56,13 +57,13 @@ fn echo(alloc: Global) -> Result<Image, AllocError> {
         pointers: Rows::from_vec(Vec::new(alloc)),
         functions: Rows::from_vec(functions),
         main: 0,
-        code: Rows::from_vec(Vec::from_slice(alloc, &ECHO)?),
+        code: Rows::from_vec(Vec::from_slice(alloc, code)?),
     })
 }
 
-fn verified(rt: &impl Abort, alloc: Global) -> Result<Verified, Fail> {
+fn verified(rt: &impl Abort, alloc: Global, code: &[Instr]) -> Result<Verified, Fail> {
     Ok(
-        verify(echo(alloc)?)
+        verify(image(alloc, code)?)
             .ok()
             .expect(rt, "the image keeps the rules"),
     )
@@ -85,7 +86,7 @@ fn runs(
     ending: Ending,
     written: &[u8],
 ) -> Result<(), Fail> {
-    let mut machine = Machine::load(alloc, verified(rt, alloc)?, &SETTINGS)?;
+    let mut machine = Machine::load(alloc, verified(rt, alloc, &ECHO)?, &SETTINGS)?;
     let mut input = MemSource::new(alloc, b"x", &[], 1)?;
     let mut out = MemSink::new(alloc, 16, &[], 1)?;
     let first = machine.run(100, &mut input, &mut out);
@@ -105,4 +106,25 @@ fn devices_that_fail(rt: HostRuntime) -> Result<(), Fail> {
     runs(&rt, rt.alloc(), 1, 9, Ending::ReadFault, b"a")?;
     runs(&rt, rt.alloc(), 2, 9, Ending::ReadFault, b"ab")?;
     runs(&rt, rt.alloc(), 9, 1, Ending::WriteFault, b"a")
+}
+
+// Runs on the input `x`, one byte a call, whose read of this number fails; the program reads past the end
+// twice.
+fn reads_on(rt: &impl Abort, alloc: Global, read: u64, ending: Ending) -> Result<MemSource, Fail> {
+    let mut machine = Machine::load(alloc, verified(rt, alloc, &READ_ON)?, &SETTINGS)?;
+    let mut input = MemSource::new(alloc, b"x", &[read], 1)?;
+    let mut out = MemSink::new(alloc, 16, &[], 1)?;
+    assert_eq!(rt; machine.run(100, &mut input, &mut out), ending);
+    Ok(input)
+}
+
+// Read 0 gives the byte, and read 1 the end. Read 2 is still to come after the run.
+#[test]
+fn no_read_after_the_end(rt: HostRuntime) -> Result<(), Fail> {
+    let mut input = reads_on(&rt, rt.alloc(), 2, Ending::Ended(-2))?;
+    assert!(rt; input.read(&mut [0]).is_err());
+    assert!(rt; input.read(&mut [0]).is_ok());
+    let mut input = reads_on(&rt, rt.alloc(), 1, Ending::ReadFault)?;
+    assert!(rt; input.read(&mut [0]).is_ok());
+    Ok(())
 }

@@ -17,3 +17,12 @@ pub mod Exact
 pub mod OneAnswer
 pub mod Light
 pub mod Lifts
+pub mod NewestPath
+pub mod Verdicts
+pub mod Follows
+pub mod Loop
+pub mod Pushed
+pub mod Turns
+pub mod Blocks
+pub mod LeftOut
+pub mod Stars

@@ -212,11 +212,11 @@ optional-to-light : (m : ℕ) (p : Mark) (k : TokenKind) (u : Use) (o : Option S
 optional-to-light m p k u (Some s) l h = h
 optional-to-light m p k u None l h = begin-expr m p k u l
 
-lists-depth : (t : Target) (is : List Braces) → target_depth t + length is ≤ lists_load t is
+pub lists-depth : (t : Target) (is : List Braces) → target_depth t + length is ≤ lists_load t is
 lists-depth t [] = omega arith
 lists-depth t (b ∷ is) = omega (arith, lists-depth t is)
 
-use-deep : (u : Use) → use_depth u ≤ use_load u
+pub use-deep : (u : Use) → use_depth u ≤ use_load u
 use-deep (Statement f n fs) = omega arith
 use-deep (IfTest f n fs) = omega arith
 use-deep (WhileTest f n fs) = omega arith

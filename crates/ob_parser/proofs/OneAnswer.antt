@@ -12,27 +12,23 @@ use Rattle.ob_tree.specs.ProgramPlaces.{PlacedProgram, place_program}
 use Rattle.ob_tree.specs.ProgramPaths.{height_program}
 use Rattle.ob_tree.specs.Fronts.{kinds, lines, within, any}
 use Rattle.ob_tree.specs.ProgramFronts.{BeginsProgram, IsProgram, FrontProgram, DeepFrontProgram, IsTreeOf}
-use Rattle.ob_tree.specs.Answers.{Verdict, Whole, IsVerdict}
+use Rattle.ob_tree.specs.Answers.{Verdict, Whole}
 use Rattle.ob_tree.proofs.OneProgram.{one-program}
 use Rattle.ob_tree.proofs.ProgramStates.{State, Items}
 use Rattle.ob_tree.proofs.ProgramMachine.{step, finish}
 use Rattle.ob_tree.proofs.Readings.{read, verdict, right, all-kinds}
 use Rattle.ob_parser.specs.Loads.{load}
-use Rattle.ob_parser.specs.Answer.{Answer, IsFirst, IsAnswer}
+use Rattle.ob_parser.specs.Answer.{Answer, IsFirst, IsAnswer, IsProgramVerdict}
 use Rattle.ob_parser.proofs.Most.{program-most}
 use Rattle.ob_parser.proofs.Exact.{machine, exact-program, goes-on, some-tree, finish-whole}
 
 -- the right answer in the parser's terms, by the right verdict on how far programs go on
 module _ (ts : List Token) (all : All (λ t. IsOfSource t.kind) ts) where
-  abbrev Right : Verdict ProgramTree → Type 0
-  Right v = IsVerdict (FrontProgram ts) (DeepFrontProgram ts) 0 (length ts) (λ i p. IsProgram (within 0) (kinds ts 0 i) p) (PlacedProgram (lines ts)) v
-
-  right-verdict : (v : Verdict ProgramTree) × Right v
-  right-verdict = (
-    verdict finish (read (λ q k s. step (here (lines ts) q) k s) load 0 0 (map (λ t. t.kind) ts) (Items [])),
-    right (λ q k s. step (here (lines ts) q) k s) load finish BeginsProgram IsProgram (PlacedProgram (lines ts)) 0 0 (machine (lines ts)) (exact-program (lines ts)) ts all ts 0 (Items []) refl (omega arith) (omega arith) refl (omega arith)
-        (λ j a b. absurd (omega arith)),
-  )
+  -- the machine's verdict is right
+  pub first-right : IsProgramVerdict ts (verdict finish (read (λ q k s. step (here (lines ts) q) k s) load 0 0 (map (λ t. t.kind) ts) (Items [])))
+  first-right =
+      right (λ q k s. step (here (lines ts) q) k s) load finish BeginsProgram IsProgram (PlacedProgram (lines ts)) 0 0 (machine (lines ts)) (exact-program (lines ts)) ts all ts 0 (Items []) refl (omega arith) (omega arith) refl (omega arith)
+      (λ j a b. absurd (omega arith))
 
   -- where programs begin with all tokens, the machine holds what keeps the limit behind them
   at-end : (n : ℕ) → n ≡ length ts → ((j : ℕ) → 0 ≤ j → j < length ts → FrontProgram ts j) → (s : State) × (machine (lines ts) (kinds ts 0 n) ≡ Some s) × (0 + load s ≤ 256)
@@ -63,25 +59,36 @@ module _ (ts : List Token) (all : All (λ t. IsOfSource t.kind) ts) where
   no-deep-at-end i e none f (inr b) =
       not-deep f (subst (λ n. (t : ProgramTree) → IsProgram (within 0) (kinds ts 0 n) t → ⊥) e none) b.1.0 (subst (λ n. IsProgram any (kinds ts 0 n) b.1.0) e b.1.1)
 
-  answer-of : (v : Verdict ProgramTree) → Right v → (answer : Answer) × IsAnswer ts answer
-  answer-of (Whole t i) (inr e, is, placed) =
-      (Answer.Parsed t, (record { valid = is.valid; placed = placed; spelled = is.spelled ∙ ap (kinds ts 0) e.0 }, omega (arith, is.limit)))
-  answer-of (Whole t i) (inl l, is, placed) =
-      (Answer.NoTree i, (record { within = omega (arith, l.0.below); before = λ j h. l.0.before j (omega arith) h; without = l.0.without }, l.1))
-  answer-of (Verdict.NoTree i) (inl l, none) =
-      (Answer.NoTree i, (record { within = omega (arith, l.0.below); before = λ j h. l.0.before j (omega arith) h; without = l.0.without }, l.1))
-  answer-of (Verdict.NoTree i) (inr e, none) = (
-    Answer.NoTree i,
-    (
-      record { within = omega (arith, e.0); before = λ j h. e.1 j (omega arith) (omega (arith, h, e.0)); without = no-front-at-end i e.0 none },
-      no-deep-at-end i e.0 none e.1,
-    ),
+  -- the answers that verdicts stand for
+  pub parsed : (i : ℕ) (t : ProgramTree) → length ts ≤ i → IsProgramVerdict ts (Whole t i) → IsAnswer ts (Answer.Parsed t)
+  parsed i t n (inl l, is, placed) = absurd (omega (arith, n, l.0.below))
+  parsed i t n (inr e, is, placed) = (record { valid = is.valid; placed = placed; spelled = is.spelled ∙ ap (kinds ts 0) e.0 }, omega (arith, is.limit))
+
+  pub stopped : (i : ℕ) (t : ProgramTree) → i < length ts → IsProgramVerdict ts (Whole t i) → IsAnswer ts (Answer.NoTree i)
+  stopped i t n (inl l, is, placed) = (record { within = omega (arith, l.0.below); before = λ j h. l.0.before j (omega arith) h; without = l.0.without }, l.1)
+  stopped i t n (inr e, is, placed) = absurd (omega (arith, n, e.0))
+
+  pub no-tree : (i : ℕ) → IsProgramVerdict ts (Verdict.NoTree i) → IsAnswer ts (Answer.NoTree i)
+  no-tree i (inl l, none) = (record { within = omega (arith, l.0.below); before = λ j h. l.0.before j (omega arith) h; without = l.0.without }, l.1)
+  no-tree i (inr e, none) = (
+    record { within = omega (arith, e.0); before = λ j h. e.1 j (omega arith) (omega (arith, h, e.0)); without = no-front-at-end i e.0 none },
+    no-deep-at-end i e.0 none e.1,
   )
-  answer-of (Verdict.TooDeep i) h =
-      (Answer.TooDeep i, (record { within = omega (arith, h.0.below); before = λ j g. h.0.before j (omega arith) g; without = h.0.without }, h.1))
+
+  pub too-deep : (i : ℕ) → IsProgramVerdict ts (Verdict.TooDeep i) → IsAnswer ts (Answer.TooDeep i)
+  too-deep i h = (record { within = omega (arith, h.0.below); before = λ j g. h.0.before j (omega arith) g; without = h.0.without }, h.1)
+
+  answer-of : (v : Verdict ProgramTree) → IsProgramVerdict ts v → (answer : Answer) × IsAnswer ts answer
+  answer-of (Whole t i) v = go (cases_lt i (length ts))
+    where
+      go : (i < length ts) ⊎ (length ts ≤ i) → (answer : Answer) × IsAnswer ts answer
+      go (inl h) = (Answer.NoTree i, stopped i t h v)
+      go (inr h) = (Answer.Parsed t, parsed i t h v)
+  answer-of (Verdict.NoTree i) v = (Answer.NoTree i, no-tree i v)
+  answer-of (Verdict.TooDeep i) v = (Answer.TooDeep i, too-deep i v)
 
   pub some-answer : (answer : Answer) × IsAnswer ts answer
-  some-answer = answer-of right-verdict.0 right-verdict.1
+  some-answer = answer-of (verdict finish (read (λ q k s. step (here (lines ts) q) k s) load 0 0 (map (λ t. t.kind) ts) (Items []))) first-right
 
 -- only one answer is right
 module _ (ts : List Token) where

@@ -6,9 +6,11 @@ use Rattle.ob_tree.specs.declared.programs.Program.{Program}
 use Rattle.ob_tree.specs.declared.tokens.Token.{Token}
 use Rattle.ob_tree.specs.Programs.{ProgramTree}
 use Rattle.ob_tree.specs.ProgramPaths.{height_program}
+use Rattle.ob_tree.specs.ProgramPlaces.{PlacedProgram}
 use Rattle.ob_tree.specs.ProgramView.{program_tree}
-use Rattle.ob_tree.specs.Fronts.{greatest_path}
-use Rattle.ob_tree.specs.ProgramFronts.{FrontProgram, DeepFrontProgram, IsTreeOf}
+use Rattle.ob_tree.specs.Fronts.{greatest_path, kinds, lines, within}
+use Rattle.ob_tree.specs.ProgramFronts.{FrontProgram, DeepFrontProgram, IsProgram, IsTreeOf}
+use Rattle.ob_tree.specs.Answers.{Verdict, IsVerdict}
 
 pub data Answer : Type 0 where
   Parsed : (program : ProgramTree) → Answer
@@ -27,6 +29,12 @@ abbrev pub IsAnswer : List Token → Answer → Type 0
 IsAnswer tokens (Answer.Parsed p) = IsTreeOf tokens p × (height_program p ≤ greatest_path)
 IsAnswer tokens (Answer.NoTree i) = IsFirst tokens i × (DeepFrontProgram tokens i → ⊥)
 IsAnswer tokens (Answer.TooDeep i) = IsFirst tokens i × DeepFrontProgram tokens i
+
+-- the verdict on how far programs go on is right
+abbrev pub IsProgramVerdict : List Token → Verdict ProgramTree → Type 0
+IsProgramVerdict tokens v =
+    IsVerdict (FrontProgram tokens) (DeepFrontProgram tokens) 0 (length tokens) (λ i p. IsProgram (within 0) (kinds tokens 0 i) p)
+    (PlacedProgram (lines tokens)) v
 
 -- what the parser gives: the right answer, or want of memory
 abbrev pub ParsedProgram : List Token → Result Program SyntaxFault → Type 0

@@ -9,7 +9,7 @@ use Rattle.ob_exprs.specs.Loads as expr
 -- the most nodes on a path of the frames
 abbrev pub load_stack : List Frame → ℕ
 load_stack [] = 0
-load_stack (InBody d ∷ fs) = max (height_program d.items) (1 + max (height_spec d.spec) (height_function d.stars d.params))
+load_stack (InBody d ∷ fs) = max (height_program d.items) (length fs + (1 + max (height_spec d.spec) (height_function d.stars d.params)))
 load_stack (InBlock f n items ∷ fs) = max (load_stack fs) (length fs + (1 + height_block items))
 load_stack (InIf f n c ∷ fs) = max (load_stack fs) (length fs + (1 + height c))
 load_stack (InElse f n c s ∷ fs) = max (load_stack fs) (length fs + (1 + max (height c) (height_stmt s)))

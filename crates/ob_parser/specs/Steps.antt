@@ -41,3 +41,12 @@ Leads m k (step.Goes s) next = next ≡ Some (state_of s)
 Leads m k (step.Reads u) next = next ≡ read m k (use_of u) (reader.Operand [])
 Leads m k (step.Specifies u) next = next ≡ specify m k (spec_use_of u) (reader.Specifier [])
 Leads m k step.Stuck next = next ≡ None
+
+-- the state behind a token, or none where no program goes on so
+abbrev pub Reaches : Option State → Option plain.State → Type 0
+Reaches (Some s) next = next ≡ Some (state_of s)
+Reaches None next = next ≡ None
+
+abbrev pub stepped : Option State → Step
+stepped (Some s) = step.Goes s
+stepped None = step.Stuck

@@ -1,37 +1,229 @@
-ghost use Rattle.std.specs.Prelude.{◌≡◌, Some, IfOk};
-ghost use Rattle.ob_tree.specs.ExpressionView.{spec_tree, dim_trees, init_tree};
-ghost use Rattle.ob_tree.specs.ProgramView.{params_tree};
-ghost use Rattle.ob_tree.proofs.ProgramMachine.{after_dims as after_dims_of, begin_declaration as begin_declaration_of, begin_param as begin_param_of, closed as closed_of, declare as declare_of, first_param as first_param_of, initialised as initialised_of, last_comma as last_comma_of, param as param_of, specified as specified_of};
-ghost use Rattle.ob_parser.specs.Steps.{Leads};
-ghost use Rattle.ob_parser.specs.View.{braces_of, declaration_of, declarator_of, head_of, listing_of, mark, owner_of, spec_use_of, target_of};
+ghost use Rattle.std.specs.Prelude.{◌≡◌, ◌<◌, ◌++◌, ◌∷◌, [], IfOk, Some, map};
+ghost use Rattle.ob_tree.specs.Programs.{ItemTree};
+ghost use Rattle.ob_tree.specs.ExpressionView.{obj_trees, spec_tree};
+ghost use Rattle.ob_tree.specs.ProgramView.{file_tree, item_tree, local_tree};
+ghost use Rattle.ob_tree.proofs.ProgramStates.{Begin, InBlock, Items};
+ghost use Rattle.ob_tree.proofs.ProgramMachine.{begin_declaration as begin_declaration_of, declare as declare_of, end_declaration as end_declaration_of, first_name as first_name_of, next_name as next_name_of, specified as specified_of};
+ghost use Rattle.ob_tree.proofs.ProgramParts.{add_local as add_local_of, add_name as add_name_of, declares_tag as declares_tag_of, objects as objects_of};
+ghost use Rattle.ob_parser.specs.Steps.{Leads, Reaches, state_of};
+ghost use Rattle.ob_parser.specs.View.{block_trees, declaration_of, frames_of, mark, owner_of, spec_use_of};
 
+use crate::frames::push_frame;
+use crate::params::param;
 use crate::state::{
-    Braces, Declaration, Declarator, Head, Listing, Owner, Place, SpecUse, Step, Target,
+    Declaration, Declarator, Frame, Head, Heading, Owner, Place, SpecUse, State, Step, Use,
 };
-use ob_base::NoMemory;
-use ob_tree::{Dim, Init, Params, Spec, TokenKind};
+use ob_base::{NoMemory, Text};
+use ob_tree::{
+    BlockItem, FileDecl, ForStart, Item, ItemNode, Keyword, Local, ObjDecl, Sign, Spec, SpecNode,
+    TokenKind,
+};
 use std::alloc::Global;
 
-/// A declaration begins with the token, with `static` or without.
-pub fn begin_declaration(kind: &TokenKind, place: Place, owner: Owner) -> Result<Step, NoMemory>
-    ensures { IfOk result (λ s. Leads (mark place) kind.now s (begin_declaration_of (mark place) kind.now (owner_of owner))) }
+pub fn copy_of(alloc: Global, text: &Text) -> Result<Text, NoMemory>
+    ensures { IfOk result (λ t. t ≡ text.now) }
 {
-    let _unread = (kind, place, owner);
-    Err(NoMemory)
+    let mut copy = Text::new(alloc);
+    copy.add(text.bytes())?;
+    Ok(copy)
 }
 
-/// Behind the specifier of a declaration or of a parameter.
-pub fn specified(
+/// A declaration begins with the token, with `static` or without.
+pub fn begin_declaration(kind: &TokenKind, place: Place, owner: Owner) -> Step
+    ensures { Leads (mark place) kind.now result (begin_declaration_of (mark place) kind.now (owner_of owner)) }
+{
+    let first = place.at;
+    let line = place.line;
+    match kind {
+        TokenKind::Word(Keyword::Static) => {
+            Step::Goes(State::Specifying(SpecUse::Declaration(Heading {
+                owner,
+                first,
+                line,
+                fixed: true,
+            })))
+        }
+        _ => Step::Specifies(SpecUse::Declaration(Heading {
+            owner,
+            first,
+            line,
+            fixed: false,
+        })),
+    }
+}
+
+/// The objects among declarators, which in a block are all.
+#[tactic(auto, using(crate::proofs::Pushed::object_more, crate::proofs::Pushed::function_more))]
+fn objects(alloc: Global, names: Vec<FileDecl>) -> Result<Vec<ObjDecl>, NoMemory>
+    ensures { IfOk result (λ v. obj_trees v.items ≡ objects_of (map file_tree names.items)) }
+{
+    let mut objects = Vec::new(alloc);
+    for name in names {
+        match name {
+            FileDecl::Object(object) => objects.push(object)?,
+            FileDecl::Function { .. } => {}
+        }
+    }
+    Ok(objects)
+}
+
+/// A declaration in a block, or in a `for`.
+fn local(
+    alloc: Global,
+    first: u32,
+    line: u32,
+    fixed: bool,
+    spec: Spec,
+    names: Vec<FileDecl>,
+) -> Result<Local, NoMemory>
+    ensures { IfOk result (λ l. local_tree l ≡ record {
+      first = first;
+      line = line;
+      fixed = fixed;
+      spec = spec_tree spec;
+      names = objects_of (map file_tree names.items);
+    }) }
+{
+    let names = objects(alloc, names)?;
+    Ok(Local {
+        first,
+        line,
+        fixed,
+        spec,
+        names,
+    })
+}
+
+pub fn push_item(items: Vec<Item>, item: Item) -> Result<Vec<Item>, NoMemory>
+    ensures { IfOk result (λ v. map item_tree v.items ≡ map item_tree items.items ++ item_tree item ∷ []) }
+{
+    let mut items = items;
+    items.push(item)?;
+    Ok(items)
+}
+
+#[tactic(auto, using(crate::proofs::Pushed::locals_pushed))]
+fn push_local(items: Vec<BlockItem>, local: Local) -> Result<Vec<BlockItem>, NoMemory>
+    ensures { IfOk result (λ v. block_trees v.items ≡ add_local_of (block_trees items.items) (local_tree local)) }
+{
+    let mut items = items;
+    items.push(BlockItem::Local(local))?;
+    Ok(items)
+}
+
+/// The state behind a whole external declaration.
+fn end_outside(
+    items: Vec<Item>,
+    first: u32,
+    line: u32,
+    fixed: bool,
+    spec: Spec,
+    names: Vec<FileDecl>,
+) -> Result<State, NoMemory>
+    ensures { IfOk result (λ s. state_of s ≡ Items (map item_tree items.items
+        ++ ItemTree.Decls first line fixed (spec_tree spec) (map file_tree names.items) ∷ [])) }
+{
+    let node = ItemNode::Decls(names);
+    let item = Item {
+        first,
+        line,
+        fixed,
+        spec,
+        node,
+    };
+    Ok(State::Items(push_item(items, item)?))
+}
+
+/// The state behind a whole declaration of a block.
+fn end_inside(
+    first: u32,
+    line: u32,
+    items: Vec<BlockItem>,
+    frames: Vec<Frame>,
+    local: Local,
+) -> Result<State, NoMemory>
+    ensures { IfOk result (λ s. state_of s
+        ≡ Begin (InBlock first line (add_local_of (block_trees items.items) (local_tree local)) ∷ frames_of frames.items)) }
+{
+    let items = push_local(items, local)?;
+    let mut frames = frames;
+    push_frame(&mut frames, Frame::Block { first, line, items })?;
+    Ok(State::Begin(frames))
+}
+
+/// The state behind a whole declaration.
+fn end_declaration(alloc: Global, declaration: Declaration) -> Result<State, NoMemory>
+    ensures { IfOk result (λ s. state_of s ≡ end_declaration_of (declaration_of declaration)) }
+{
+    let Declaration {
+        heading,
+        spec,
+        names,
+    } = declaration;
+    let Heading {
+        owner,
+        first,
+        line,
+        fixed,
+    } = heading;
+    match owner {
+        Owner::Outer(items) => end_outside(items, first, line, fixed, spec, names),
+        Owner::Inner {
+            first: block,
+            line: at,
+            items,
+            frames,
+        } => {
+            let local = local(alloc, first, line, fixed, spec, names)?;
+            end_inside(block, at, items, frames, local)
+        }
+        Owner::Start {
+            first: begin,
+            line: at,
+            frames,
+        } => {
+            let local = local(alloc, first, line, fixed, spec, names)?;
+            Ok(State::Optional(Use::ForTest {
+                first: begin,
+                line: at,
+                start: ForStart::Local(local),
+                frames,
+            }))
+        }
+    }
+}
+
+/// A declaration with one declarator more.
+pub fn add_name(declaration: Declaration, name: FileDecl) -> Result<Declaration, NoMemory>
+    ensures { IfOk result (λ d. declaration_of d ≡ add_name_of (declaration_of declaration) (file_tree name)) }
+{
+    let Declaration {
+        heading,
+        spec,
+        names,
+    } = declaration;
+    let mut names = names;
+    names.push(name)?;
+    Ok(Declaration {
+        heading,
+        spec,
+        names,
+    })
+}
+
+/// Behind a declarator: a comma and the next one, or a semicolon.
+pub fn next_name(
     alloc: Global,
     kind: &TokenKind,
-    place: Place,
-    use_: SpecUse,
-    spec: Spec,
-) -> Result<Step, NoMemory>
-    ensures { IfOk result (λ s. Leads (mark place) kind.now s (specified_of (mark place) kind.now (spec_use_of use_) (Some (spec_tree spec)))) }
+    declaration: Declaration,
+) -> Result<Option<State>, NoMemory>
+    ensures { IfOk result (λ s. Reaches s (next_name_of kind.now (declaration_of declaration))) }
 {
-    let _unread = (alloc, kind, place, use_, spec);
-    Err(NoMemory)
+    match kind {
+        TokenKind::Sign(Sign::Comma) => Ok(Some(State::Declare(declaration, 0))),
+        TokenKind::Sign(Sign::Semi) => Ok(Some(end_declaration(alloc, declaration)?)),
+        _ => Ok(None),
+    }
 }
 
 /// Behind the stars of a declarator.
@@ -41,102 +233,85 @@ pub fn declare(
     place: Place,
     declaration: Declaration,
     stars: u32,
-) -> Result<Step, NoMemory>
-    ensures { IfOk result (λ s. Leads (mark place) kind.now s (declare_of (mark place) kind.now (declaration_of declaration) stars)) }
+) -> Result<Option<State>, NoMemory>
+    requires { stars < 1000 }
+    ensures { IfOk result (λ s. Reaches s (declare_of (mark place) kind.now (declaration_of declaration) stars)) }
 {
-    let _unread = (alloc, kind, place, declaration, stars);
-    Err(NoMemory)
+    match kind {
+        TokenKind::Sign(Sign::Star) => Ok(Some(State::Declare(declaration, stars + 1))),
+        TokenKind::Name(text) => {
+            let declarator = Declarator {
+                declaration,
+                stars,
+                name: copy_of(alloc, text)?,
+                at: place.at,
+            };
+            Ok(Some(State::Dims(Head::Name(declarator), Vec::new(alloc))))
+        }
+        _ => Ok(None),
+    }
 }
 
-/// Behind a row of brackets.
-pub fn after_dims(
+/// Whether the specifier declares a tag, so that no declarator has to follow.
+fn declares_tag(spec: &Spec) -> bool
+    ensures { result ≡ declares_tag_of (spec_tree spec.now) }
+{
+    match &spec.node {
+        SpecNode::Void => false,
+        SpecNode::SizeT => false,
+        SpecNode::Integer(_) => false,
+        SpecNode::Tag(_) => true,
+        SpecNode::Struct { tag, .. } => match tag {
+            Some(_) => true,
+            None => false,
+        },
+    }
+}
+
+/// Behind the specifier of a declaration.
+fn first_name(
     alloc: Global,
     kind: &TokenKind,
     place: Place,
-    head: Head,
-    dims: Vec<Dim>,
-) -> Result<Step, NoMemory>
-    ensures { IfOk result (λ s. Leads (mark place) kind.now s (after_dims_of kind.now (head_of head) (dim_trees dims.items))) }
+    declaration: Declaration,
+) -> Result<Option<State>, NoMemory>
+    ensures { IfOk result (λ s. Reaches s (first_name_of (mark place) kind.now (declaration_of declaration))) }
 {
-    let _unread = (alloc, kind, place, head, dims);
-    Err(NoMemory)
+    match kind {
+        TokenKind::Sign(Sign::Semi) => {
+            if declares_tag(&declaration.spec) {
+                Ok(Some(end_declaration(alloc, declaration)?))
+            } else {
+                Ok(None)
+            }
+        }
+        _ => declare(alloc, kind, place, declaration, 0),
+    }
 }
 
-/// Behind the opening parenthesis of parameters.
-pub fn first_param(
+/// Behind the specifier of a declaration or of a parameter.
+pub fn specified(
     alloc: Global,
     kind: &TokenKind,
     place: Place,
-    listing: Listing,
-) -> Result<Step, NoMemory>
-    ensures { IfOk result (λ s. Leads (mark place) kind.now s (first_param_of (mark place) kind.now (listing_of listing))) }
-{
-    let _unread = (alloc, kind, place, listing);
-    Err(NoMemory)
-}
-
-/// A parameter begins with the token.
-pub fn begin_param(kind: &TokenKind, place: Place, listing: Listing) -> Result<Step, NoMemory>
-    ensures { IfOk result (λ s. Leads (mark place) kind.now s (begin_param_of (mark place) kind.now (listing_of listing))) }
-{
-    let _unread = (kind, place, listing);
-    Err(NoMemory)
-}
-
-/// Behind the stars of a parameter.
-pub fn param(
-    alloc: Global,
-    kind: &TokenKind,
-    place: Place,
-    listing: Listing,
-    first: u32,
-    line: u32,
+    use_: SpecUse,
     spec: Spec,
-    stars: u32,
-) -> Result<Step, NoMemory>
-    ensures { IfOk result (λ s. Leads (mark place) kind.now s (param_of (mark place) kind.now (listing_of listing) first line (spec_tree spec) stars)) }
+) -> Result<Option<State>, NoMemory>
+    ensures { IfOk result (λ s. Reaches s (specified_of (mark place) kind.now (spec_use_of use_) (Some (spec_tree spec)))) }
 {
-    let _unread = (alloc, kind, place, listing, first, line, spec, stars);
-    Err(NoMemory)
-}
-
-/// Behind the closing parenthesis of parameters.
-pub fn closed(
-    alloc: Global,
-    kind: &TokenKind,
-    place: Place,
-    declarator: Declarator,
-    params: Params,
-) -> Result<Step, NoMemory>
-    ensures { IfOk result (λ s. Leads (mark place) kind.now s (closed_of (mark place) kind.now (declarator_of declarator) (params_tree params))) }
-{
-    let _unread = (alloc, kind, place, declarator, params);
-    Err(NoMemory)
-}
-
-/// Behind an initialiser.
-pub fn initialised(
-    kind: &TokenKind,
-    place: Place,
-    target: Target,
-    lists: Vec<Braces>,
-    init: Init,
-) -> Result<Step, NoMemory>
-    ensures { IfOk result (λ s. Leads (mark place) kind.now s (initialised_of kind.now (target_of target) (braces_of lists.items) (init_tree init))) }
-{
-    let _unread = (kind, place, target, lists, init);
-    Err(NoMemory)
-}
-
-/// The closing brace behind the last comma of an initialiser list.
-pub fn last_comma(
-    kind: &TokenKind,
-    place: Place,
-    target: Target,
-    lists: Vec<Braces>,
-) -> Result<Step, NoMemory>
-    ensures { IfOk result (λ s. Leads (mark place) kind.now s (last_comma_of kind.now (target_of target) (braces_of lists.items))) }
-{
-    let _unread = (kind, place, target, lists);
-    Err(NoMemory)
+    match use_ {
+        SpecUse::Declaration(heading) => {
+            let declaration = Declaration {
+                heading,
+                spec,
+                names: Vec::new(alloc),
+            };
+            first_name(alloc, kind, place, declaration)
+        }
+        SpecUse::Param {
+            listing,
+            first,
+            line,
+        } => param(alloc, kind, place, listing, first, line, spec, 0),
+    }
 }

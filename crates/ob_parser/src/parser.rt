@@ -3,6 +3,8 @@ ghost use Rattle.std.specs.List.{All};
 ghost use Rattle.ob_tree.specs.Valid.{IsOfSource};
 ghost use Rattle.ob_parser.specs.Answer.{ParsedProgram};
 
+use crate::finish::finish;
+use crate::read::read;
 use ob_tree::{Program, SyntaxFault, Token};
 use std::alloc::Global;
 
@@ -18,7 +20,9 @@ pub fn parse(alloc: Global, tokens: &Vec<Token>) -> Result<Program, SyntaxFault>
     requires of_source { All (λ t. IsOfSource t.kind) tokens.now.items }
     ensures { ParsedProgram tokens.now.items result }
 {
-    let _unread = tokens;
-    let _unused = alloc;
-    Err(SyntaxFault::NoMemory)
+    let state = read(alloc, tokens)?;
+    match finish(alloc, state)? {
+        Some(program) => Ok(program),
+        None => Err(SyntaxFault::NoTree(tokens.len() as u32)),
+    }
 }

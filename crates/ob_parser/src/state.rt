@@ -1,3 +1,6 @@
+ghost use Rattle.std.specs.Prelude.{◌≡◌};
+ghost use Rattle.ob_parser.specs.Steps.{stepped as stepped_of};
+
 use ob_base::Text;
 use ob_tree::{BlockItem, Dim, Expr, FileDecl, ForStart, Init, Item, Param, Params, Spec, Stmt};
 
@@ -276,4 +279,14 @@ pub enum Step {
     Specifies(SpecUse),
     /// No program goes on so.
     Stuck,
+}
+
+/// The step to a state, or none.
+pub fn stepped(state: Option<State>) -> Step
+    ensures { result ≡ stepped_of state }
+{
+    match state {
+        Some(state) => Step::Goes(state),
+        None => Step::Stuck,
+    }
 }

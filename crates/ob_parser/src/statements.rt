@@ -1,48 +1,228 @@
-ghost use Rattle.std.specs.Prelude.{◌≡◌, IfOk};
-ghost use Rattle.ob_tree.specs.ProgramView.{option_tree, stmt_tree};
-ghost use Rattle.ob_tree.proofs.ProgramMachine.{begin as begin_of, begin_init as begin_init_of, done as done_of, for_start as for_start_of, optional as optional_of, used as used_of};
-ghost use Rattle.ob_parser.specs.Steps.{Leads};
-ghost use Rattle.ob_parser.specs.View.{braces_of, frames_of, mark, target_of, use_of};
+ghost use Rattle.std.specs.Prelude.{◌≡◌, ◌∷◌, IfOk};
+ghost use Rattle.ob_tree.proofs.Machine.{is_spec_word};
+ghost use Rattle.ob_tree.proofs.ProgramStates.{InBlock};
+ghost use Rattle.ob_tree.proofs.ProgramMachine.{begin as begin_of, begins_declaration as begins_declaration_of, block_item as block_item_of, for_start as for_start_of, statement as statement_of};
+ghost use Rattle.ob_parser.specs.Statements.{begins_local as begins_local_of, begins_statement as begins_statement_of, begins_type as begins_type_of, begun as begun_of, ends_block as ends_block_of, is_statement_word as is_statement_word_of, word_begun as word_begun_of};
+ghost use Rattle.ob_parser.specs.Steps.{Leads, Reaches};
+ghost use Rattle.ob_parser.specs.View.{block_trees, frames_of, mark};
 
-use crate::state::{Braces, Frame, Place, Step, Target, Use};
+use crate::declarations::begin_declaration;
+use crate::frames::{pop_frame, push_frame};
+use crate::nodes::{block, break_away, continue_on};
+use crate::state::{Frame, Heading, Owner, Place, SpecUse, State, Step, Use, stepped};
+use crate::uses::optional;
 use ob_base::NoMemory;
-use ob_tree::{Expr, Stmt, TokenKind};
+use ob_tree::{BlockItem, Keyword, Sign, TokenKind};
 use std::alloc::Global;
 
-/// Behind an expression that was read for something, or in its place where there is none.
-pub fn used(
+/// Whether a specifier begins with the word.
+pub fn begins_spec(word: Keyword) -> bool
+    ensures { result ≡ is_spec_word word }
+{
+    match word {
+        Keyword::Void
+        | Keyword::SizeT
+        | Keyword::Char
+        | Keyword::Short
+        | Keyword::Int
+        | Keyword::Long
+        | Keyword::Signed
+        | Keyword::Unsigned
+        | Keyword::Struct => true,
+        _ => false,
+    }
+}
+
+/// Whether a declaration begins with the word.
+fn begins_declaration(word: Keyword) -> bool
+    ensures { result ≡ begins_declaration_of word }
+{
+    match word {
+        Keyword::Static => true,
+        _ => begins_spec(word),
+    }
+}
+
+/// Whether a statement begins with the word, and not with an expression.
+fn is_statement_word(word: Keyword) -> bool
+    ensures { result ≡ is_statement_word_of word }
+{
+    match word {
+        Keyword::If
+        | Keyword::While
+        | Keyword::Do
+        | Keyword::For
+        | Keyword::Break
+        | Keyword::Continue
+        | Keyword::Return => true,
+        _ => false,
+    }
+}
+
+/// Whether a statement begins with the token, and not with an expression.
+fn begins_statement(kind: &TokenKind) -> bool
+    ensures { result ≡ begins_statement_of kind.now }
+{
+    match kind {
+        TokenKind::Word(word) => is_statement_word(*word),
+        TokenKind::Sign(Sign::OpenBrace) => true,
+        _ => false,
+    }
+}
+
+/// Behind the first word of a statement.
+fn word_begun(word: Keyword, place: Place, frames: Vec<Frame>) -> Result<Option<State>, NoMemory>
+    ensures { IfOk result (λ o. Reaches o (word_begun_of (mark place) word (frames_of frames.items))) }
+{
+    let first = place.at;
+    let line = place.line;
+    let state = match word {
+        Keyword::If => State::Opening(Use::IfTest {
+            first,
+            line,
+            frames,
+        }),
+        Keyword::While => State::Opening(Use::WhileTest {
+            first,
+            line,
+            frames,
+        }),
+        Keyword::Do => {
+            let mut frames = frames;
+            push_frame(&mut frames, Frame::Do { first, line })?;
+            return Ok(Some(State::Begin(frames)));
+        }
+        Keyword::For => State::ForWord {
+            first,
+            line,
+            frames,
+        },
+        Keyword::Break => State::Semi(break_away(first, line), frames),
+        Keyword::Continue => State::Semi(continue_on(first, line), frames),
+        Keyword::Return => State::Optional(Use::Return {
+            first,
+            line,
+            frames,
+        }),
+        _ => return Ok(None),
+    };
+    Ok(Some(state))
+}
+
+/// Behind the first token of a statement.
+fn begun(
     alloc: Global,
     kind: &TokenKind,
     place: Place,
-    use_: Use,
-    expr: Option<Expr>,
-) -> Result<Step, NoMemory>
-    ensures { IfOk result (λ s. Leads (mark place) kind.now s (used_of kind.now (use_of use_) (option_tree expr))) }
+    frames: Vec<Frame>,
+) -> Result<Option<State>, NoMemory>
+    ensures { IfOk result (λ o. Reaches o (begun_of (mark place) kind.now (frames_of frames.items))) }
 {
-    let _unread = (alloc, kind, place, use_, expr);
-    Err(NoMemory)
+    match kind {
+        TokenKind::Word(word) => word_begun(*word, place, frames),
+        TokenKind::Sign(Sign::OpenBrace) => {
+            let block = Frame::Block {
+                first: place.at,
+                line: place.line,
+                items: Vec::new(alloc),
+            };
+            let mut frames = frames;
+            push_frame(&mut frames, block)?;
+            Ok(Some(State::Begin(frames)))
+        }
+        _ => Ok(None),
+    }
 }
 
-/// An expression begins with the token, or none stands here.
-pub fn optional(alloc: Global, kind: &TokenKind, place: Place, use_: Use) -> Result<Step, NoMemory>
-    ensures { IfOk result (λ s. Leads (mark place) kind.now s (optional_of (mark place) kind.now (use_of use_))) }
-{
-    let _unread = (alloc, kind, place, use_);
-    Err(NoMemory)
-}
-
-/// An initialiser begins with the token.
-pub fn begin_init(
+/// A statement begins with the token.
+#[tactic(auto, using(crate::proofs::Pushed::reaches_leads, crate::proofs::Blocks::statement_begun, crate::proofs::Blocks::expression_stands))]
+fn statement(
     alloc: Global,
     kind: &TokenKind,
     place: Place,
-    target: Target,
-    lists: Vec<Braces>,
+    frames: Vec<Frame>,
 ) -> Result<Step, NoMemory>
-    ensures { IfOk result (λ s. Leads (mark place) kind.now s (begin_init_of (mark place) kind.now (target_of target) (braces_of lists.items))) }
+    ensures { IfOk result (λ s. Leads (mark place) kind.now s (statement_of (mark place) kind.now (frames_of frames.items))) }
 {
-    let _unread = (alloc, kind, place, target, lists);
-    Err(NoMemory)
+    if begins_statement(kind) {
+        return Ok(stepped(begun(alloc, kind, place, frames)?));
+    }
+    optional(
+        alloc,
+        kind,
+        Use::Statement {
+            first: place.at,
+            line: place.line,
+            frames,
+        },
+    )
+}
+
+/// A statement in a block begins with the token.
+fn in_block(
+    alloc: Global,
+    kind: &TokenKind,
+    place: Place,
+    first: u32,
+    line: u32,
+    items: Vec<BlockItem>,
+    frames: Vec<Frame>,
+) -> Result<Step, NoMemory>
+    ensures { IfOk result (λ s. Leads (mark place) kind.now s
+        (statement_of (mark place) kind.now (InBlock first line (block_trees items.items) ∷ frames_of frames.items))) }
+{
+    let block = Frame::Block { first, line, items };
+    let mut frames = frames;
+    push_frame(&mut frames, block)?;
+    statement(alloc, kind, place, frames)
+}
+
+/// Whether the token ends a block.
+fn ends_block(kind: &TokenKind) -> bool
+    ensures { result ≡ ends_block_of kind.now }
+{
+    match kind {
+        TokenKind::Sign(Sign::CloseBrace) => true,
+        _ => false,
+    }
+}
+
+/// Whether a declaration in a block begins with the token.
+fn begins_local(kind: &TokenKind) -> bool
+    ensures { result ≡ begins_local_of kind.now }
+{
+    match kind {
+        TokenKind::Word(word) => begins_declaration(*word),
+        _ => false,
+    }
+}
+
+/// A statement or a declaration in a block begins with the token, or the block ends.
+#[tactic(auto, using(crate::proofs::Blocks::local_comes, crate::proofs::Blocks::block_ends, crate::proofs::Blocks::statement_comes))]
+pub fn block_item(
+    alloc: Global,
+    kind: &TokenKind,
+    place: Place,
+    first: u32,
+    line: u32,
+    items: Vec<BlockItem>,
+    frames: Vec<Frame>,
+) -> Result<Step, NoMemory>
+    ensures { IfOk result (λ s. Leads (mark place) kind.now s (block_item_of (mark place) kind.now first line (block_trees items.items) (frames_of frames.items))) }
+{
+    if begins_local(kind) {
+        let owner = Owner::Inner {
+            first,
+            line,
+            items,
+            frames,
+        };
+        return Ok(begin_declaration(kind, place, owner));
+    }
+    if ends_block(kind) {
+        return Ok(Step::Goes(State::Done(block(first, line, items), frames)));
+    }
+    in_block(alloc, kind, place, first, line, items, frames)
 }
 
 /// A statement begins with the token or, in a block, a declaration, or the block ends.
@@ -54,11 +234,31 @@ pub fn begin(
 ) -> Result<Step, NoMemory>
     ensures { IfOk result (λ s. Leads (mark place) kind.now s (begin_of (mark place) kind.now (frames_of frames.items))) }
 {
-    let _unread = (alloc, kind, place, frames);
-    Err(NoMemory)
+    let mut frames = frames;
+    match pop_frame(&mut frames) {
+        Some(Frame::Block { first, line, items }) => block_item(
+            alloc, kind, place, first, line, items, frames,
+        ),
+        Some(other) => {
+            push_frame(&mut frames, other)?;
+            statement(alloc, kind, place, frames)
+        }
+        None => statement(alloc, kind, place, frames),
+    }
+}
+
+/// Whether a specifier begins with the token.
+fn begins_type(kind: &TokenKind) -> bool
+    ensures { result ≡ begins_type_of kind.now }
+{
+    match kind {
+        TokenKind::Word(word) => begins_spec(*word),
+        _ => false,
+    }
 }
 
 /// Behind `for` and its opening parenthesis.
+#[tactic(auto, using(crate::proofs::Blocks::type_comes, crate::proofs::Blocks::expression_comes))]
 pub fn for_start(
     alloc: Global,
     kind: &TokenKind,
@@ -69,20 +269,26 @@ pub fn for_start(
 ) -> Result<Step, NoMemory>
     ensures { IfOk result (λ s. Leads (mark place) kind.now s (for_start_of (mark place) kind.now first line (frames_of frames.items))) }
 {
-    let _unread = (alloc, kind, place, first, line, frames);
-    Err(NoMemory)
-}
-
-/// Behind a whole statement.
-pub fn done(
-    alloc: Global,
-    kind: &TokenKind,
-    place: Place,
-    stmt: Stmt,
-    frames: Vec<Frame>,
-) -> Result<Step, NoMemory>
-    ensures { IfOk result (λ s. Leads (mark place) kind.now s (done_of (mark place) kind.now (stmt_tree stmt) (frames_of frames.items))) }
-{
-    let _unread = (alloc, kind, place, stmt, frames);
-    Err(NoMemory)
+    if !begins_type(kind) {
+        return optional(
+            alloc,
+            kind,
+            Use::ForStart {
+                first,
+                line,
+                frames,
+            },
+        );
+    }
+    let owner = Owner::Start {
+        first,
+        line,
+        frames,
+    };
+    Ok(Step::Specifies(SpecUse::Declaration(Heading {
+        owner,
+        first: place.at,
+        line: place.line,
+        fixed: false,
+    })))
 }

@@ -1,5 +1,4 @@
-use Rattle.std.proofs.Common.{◌≡◌, ◌++◌, ◌∷◌, [], sym, ap, ◌∙◌, arith}
-use Rattle.ob_code.specs.Frames.{words_from}
+use Rattle.std.proofs.Common.{◌++◌, ◌∷◌, [], sym, ◌∙◌, arith}
 use Rattle.ob_machine.proofs.Handed.{words_from_more}
 use Rattle.ob_machine.proofs.calls.gather.Goals as goal
 

@@ -1,16 +1,15 @@
-use Rattle.std.proofs.Common.{◌≡◌, sym, ap, ◌∙◌}
+use Rattle.std.proofs.Common.{sym, ◌∙◌}
 use Rattle.ob_words.specs.Operators.{binary}
 use Rattle.ob_words.specs.Words.{number}
-use Rattle.ob_code.specs.Machine.{get_number, set_result}
-use Rattle.ob_machine.proofs.Words.{right_number_is, set_result_some}
-use Rattle.ob_machine.specs.Executions.{result_word, right_of, state_of}
+use Rattle.ob_code.specs.Machine.{right_number}
+use Rattle.ob_machine.proofs.Words.{set_result_some}
+use Rattle.ob_machine.specs.Executions.{result_word, state_of}
 use Rattle.ob_machine.proofs.execution.Execution.binary.Goals as goal
 
 pub returns-clause-state : goal.returns-clause-state
 returns-clause-state c =
     let op = c.args.operator in
     let t = c.args.t in
-    let same = sym (λ i. result_word (binary op t (number t (c.word.ensures i)) (right_of op t (c.word-2.ensures i)))) in
-    λ r. ap (λ n. set_result (binary op t (get_number t (state_of c.args.self.now r) c.args.b) n) c.args.a (state_of c.args.self.now r)) (right_number_is op t (state_of c.args.self.now r) c.args.c)
-    ∙ set_result_some _ c.args.a c.in-Some.w (state_of c.args.self.now r) (same ∙ sym c.computed.ensures ∙ c.in-Some.is)
+    let same = sym (λ i. result_word (binary op t (number t (c.word.ensures i)) (right_number op t (c.word-2.ensures i)))) in
+    λ r. set_result_some _ c.args.a c.in-Some.w (state_of c.args.self.now r) (same ∙ sym c.computed.ensures ∙ c.in-Some.is)
     ∙ c.set_word.ensures.state r

@@ -1,4 +1,4 @@
-use Rattle.std.proofs.Common.{◌≡◌, sym, ap, ◌∙◌}
+use Rattle.std.proofs.Common.{sym, ap, ◌∙◌}
 use Rattle.ob_words.specs.Operators.{compare}
 use Rattle.ob_words.specs.Words.{number}
 use Rattle.ob_code.specs.Machine.{flag, set_word}

@@ -1,4 +1,4 @@
-use Rattle.std.proofs.Common.{◌≡◌, sym, ap, ◌∙◌}
+use Rattle.std.proofs.Common.{sym, ap, ◌∙◌}
 use Rattle.ob_words.specs.Words.{number, word}
 use Rattle.ob_code.specs.Machine.{set_word}
 use Rattle.ob_machine.specs.Executions.{state_of}

@@ -1,4 +1,4 @@
-use Rattle.std.proofs.Common.{◌≡◌, refl, rules, sym, ◌∙◌}
+use Rattle.std.proofs.Common.{refl, rules}
 use Rattle.ob_code.specs.Machine.{get_char, ticked}
 use Rattle.ob_machine.specs.Buffers.{IsUsedUp}
 use Rattle.ob_machine.specs.Exchanges.{devices}

@@ -1,4 +1,4 @@
-use Rattle.std.proofs.Common.{◌≡◌, ℕ, ◌-◌, ◌<◌, length, slice_get, w64, to_z, of_z, sym, ap, ◌∙◌, subst, arith}
+use Rattle.std.proofs.Common.{◌≡◌, ◌-◌, length, slice_get, w64, sym, ap, ◌∙◌, subst, arith}
 use Rattle.std.proofs.lemmas.Int.{to_z-of_z}
 use Rattle.ob_model.specs.declared.endings.Ending.TheVariants.{Ended}
 use Rattle.ob_code.specs.Machine.{jump, result_word, set_word}

@@ -1,4 +1,4 @@
-use Rattle.std.proofs.Common.{◌≡◌, ℕ, ◌-◌, ◌<◌, List, [], length, Option, refl, sym, ap, ◌∙◌, subst, arith}
+use Rattle.std.proofs.Common.{◌≡◌, ℕ, ◌-◌, List, [], length, refl, sym, ap, ◌∙◌, subst, arith}
 use Rattle.ob_model.specs.declared.settings.RunSettings.{RunSettings}
 use Rattle.ob_machine.specs.Exchanges.{Advances, begun, devices}
 use Rattle.ob_machine.proofs.Going.{Going, any_settings, counted_on, going_first, going_sent, going_spent, ready_on, rows_then}

@@ -1,4 +1,4 @@
-use Rattle.std.proofs.Common.{◌≡◌, ◌%◌, ◌-◌, List, [], ◌∷◌, ◌++◌, sym, ap, ◌∙◌}
+use Rattle.std.proofs.Common.{◌%◌, ◌-◌, [], ◌∷◌, ◌++◌, sym, ap, ◌∙◌}
 use Rattle.ob_code.specs.Frames.{frame_word}
 use Rattle.ob_code.specs.Machine.{get, put_char, set_word}
 use Rattle.ob_machine.specs.Executions.{state_of}

@@ -1,4 +1,4 @@
-use Rattle.std.proofs.Common.{◌≡◌, ℤ, ◌+ℤ◌, ◌*ℤ◌, w64, sym, ap, ◌∙◌}
+use Rattle.std.proofs.Common.{◌+ℤ◌, ◌*ℤ◌, w64, sym, ap, ◌∙◌}
 use Rattle.std.proofs.lemmas.Int.{to_z-of_z}
 use Rattle.ob_words.specs.Words.{number}
 use Rattle.ob_words.specs.declared.types.IntType.TheVariants.{Long}

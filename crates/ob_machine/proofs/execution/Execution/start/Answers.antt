@@ -1,4 +1,4 @@
-use Rattle.std.proofs.Common.{◌≡◌, [], length, sym, ap, ◌∙◌, subst}
+use Rattle.std.proofs.Common.{[], length, sym, ap, ◌∙◌, subst}
 use Rattle.ob_code.specs.Machine.{entering}
 use Rattle.ob_machine.specs.Executions.{Is, state_of}
 use Rattle.ob_machine.proofs.Exchanged.{stepped}

@@ -1,4 +1,3 @@
-use Rattle.std.proofs.Common.{◌≡◌, ◌+◌, refl}
 use Rattle.ob_machine.specs.Exchanges.{begun, devices}
 use Rattle.ob_machine.proofs.Exchanged.{done_advances}
 use Rattle.ob_machine.proofs.Stepped.{does, reads_answer, writes_answer}

@@ -1,4 +1,4 @@
-use Rattle.std.proofs.Common.{◌≡◌, ◌-◌, w64, sym, ap, ◌∙◌, subst}
+use Rattle.std.proofs.Common.{◌-◌, w64, sym, ap, ◌∙◌, subst}
 use Rattle.std.specs.Prelude.{unsigned_abs}
 use Rattle.std.proofs.lemmas.Int.{to_z-of_z}
 use Rattle.ob_code.specs.Machine.{calling}

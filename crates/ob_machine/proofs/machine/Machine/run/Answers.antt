@@ -1,4 +1,4 @@
-use Rattle.std.proofs.Common.{◌≡◌, ℕ, ◌+◌, ◌*◌, ◌<◌, true, List, [], ◌∷◌, length, ap, ◌∙◌, subst, arith}
+use Rattle.std.proofs.Common.{◌≡◌, ◌+◌, ◌*◌, true, [], ◌∷◌, length, ap, ◌∙◌, subst, arith}
 use Rattle.ob_code.specs.Start.{most_instructions}
 use Rattle.ob_machine.specs.Devices.{Reading, Writing}
 use Rattle.ob_machine.specs.Finished.{ComesOut}

@@ -1,0 +1,182 @@
+ghost use Rattle.std.specs.Prelude.{◌≡◌, IfOk, map, option_map};
+ghost use Rattle.ob_tree.specs.ProgramView.{item_tree, program_tree, stmt_tree};
+ghost use Rattle.ob_tree.proofs.ProgramMachine.{after_whole as after_whole_of, define as define_of, done as done_of, finish as finish_of, to_else as to_else_of, whole as whole_of};
+ghost use Rattle.ob_tree.proofs.ProgramParts.{at_while as at_while_of};
+ghost use Rattle.ob_parser.specs.Statements.{else_at, is_else as is_else_of};
+ghost use Rattle.ob_parser.specs.Steps.{Leads, Reaches, state_of};
+ghost use Rattle.ob_parser.specs.View.{definition_of, frames_of, mark};
+
+use crate::closing::close;
+use crate::declarations::{begin_declaration, push_item};
+use crate::frames::{pop_frame, push_frame};
+use crate::nodes::add_statement;
+use crate::state::{Definition, Frame, Owner, Place, State, Step, Use, stepped};
+use crate::statements::block_item;
+use ob_base::NoMemory;
+use ob_tree::{Item, ItemNode, Keyword, Program, Stmt, TokenKind};
+use std::alloc::Global;
+
+/// The external declarations with the function of this body.
+fn define(definition: Definition, body: Stmt) -> Result<Vec<Item>, NoMemory>
+    ensures { IfOk result (λ v. map item_tree v.items ≡ define_of (definition_of definition) (stmt_tree body)) }
+{
+    let Definition {
+        items,
+        first,
+        line,
+        fixed,
+        spec,
+        stars,
+        name,
+        at,
+        params,
+    } = definition;
+    let node = ItemNode::Function {
+        stars,
+        name,
+        at,
+        params,
+        body,
+    };
+    let item = Item {
+        first,
+        line,
+        fixed,
+        spec,
+        node,
+    };
+    push_item(items, item)
+}
+
+/// An `else` behind a statement that makes no other whole but an `if`.
+fn else_behind(then: Stmt, frames: Vec<Frame>) -> Result<Option<State>, NoMemory>
+    ensures { IfOk result (λ o. Reaches o (else_at (stmt_tree then) (frames_of frames.items))) }
+{
+    let mut frames = frames;
+    match pop_frame(&mut frames) {
+        Some(Frame::If { first, line, test }) => {
+            let frame = Frame::Else {
+                first,
+                line,
+                test,
+                then,
+            };
+            push_frame(&mut frames, frame)?;
+            Ok(Some(State::Begin(frames)))
+        }
+        _ => Ok(None),
+    }
+}
+
+/// An `else` behind a whole statement: it goes to the nearest `if` that has none.
+fn to_else(alloc: Global, stmt: Stmt, frames: Vec<Frame>) -> Result<Option<State>, NoMemory>
+    ensures { IfOk result (λ o. Reaches o (to_else_of (stmt_tree stmt) (frames_of frames.items))) }
+{
+    let (then, frames) = close(alloc, stmt, frames, false)?;
+    else_behind(then, frames)
+}
+
+fn at_while(kind: &TokenKind, state: State) -> Option<State>
+    ensures { Reaches result (at_while_of kind.now (state_of state)) }
+{
+    match kind {
+        TokenKind::Word(Keyword::While) => Some(state),
+        _ => None,
+    }
+}
+
+/// Behind a statement that makes no other whole.
+#[tactic(auto, using(crate::proofs::Pushed::reaches_leads))]
+fn after_whole(
+    alloc: Global,
+    kind: &TokenKind,
+    place: Place,
+    stmt: Stmt,
+    frames: Vec<Frame>,
+) -> Result<Step, NoMemory>
+    ensures { IfOk result (λ s. Leads (mark place) kind.now s (after_whole_of (mark place) kind.now (stmt_tree stmt) (frames_of frames.items))) }
+{
+    let mut frames = frames;
+    match pop_frame(&mut frames) {
+        Some(Frame::Block { first, line, items }) => {
+            let items = add_statement(items, stmt)?;
+            block_item(alloc, kind, place, first, line, items, frames)
+        }
+        Some(Frame::Do { first, line }) => {
+            let state = State::Opening(Use::DoTest {
+                first,
+                line,
+                body: stmt,
+                frames,
+            });
+            Ok(stepped(at_while(kind, state)))
+        }
+        Some(Frame::Body(definition)) => {
+            let items = define(definition, stmt)?;
+            Ok(begin_declaration(kind, place, Owner::Outer(items)))
+        }
+        _ => Ok(Step::Stuck),
+    }
+}
+
+fn is_else(kind: &TokenKind) -> bool
+    ensures { result ≡ is_else_of kind.now }
+{
+    match kind {
+        TokenKind::Word(Keyword::Else) => true,
+        _ => false,
+    }
+}
+
+/// Behind a whole statement.
+#[tactic(auto, using(crate::proofs::Turns::else_comes, crate::proofs::Turns::other_comes, crate::proofs::Pushed::reaches_leads))]
+pub fn done(
+    alloc: Global,
+    kind: &TokenKind,
+    place: Place,
+    stmt: Stmt,
+    frames: Vec<Frame>,
+) -> Result<Step, NoMemory>
+    ensures { IfOk result (λ s. Leads (mark place) kind.now s (done_of (mark place) kind.now (stmt_tree stmt) (frames_of frames.items))) }
+{
+    if is_else(kind) {
+        return Ok(stepped(to_else(alloc, stmt, frames)?));
+    }
+    let (stmt, frames) = close(alloc, stmt, frames, true)?;
+    after_whole(alloc, kind, place, stmt, frames)
+}
+
+/// The program, where the statement is a function's body.
+fn whole(stmt: Stmt, frames: Vec<Frame>) -> Result<Option<Program>, NoMemory>
+    ensures { IfOk result (λ o. option_map program_tree o ≡ whole_of (stmt_tree stmt) (frames_of frames.items)) }
+{
+    let mut frames = frames;
+    match pop_frame(&mut frames) {
+        Some(Frame::Body(definition)) => {
+            let items = define(definition, stmt)?;
+            Ok(Some(Program { items }))
+        }
+        _ => Ok(None),
+    }
+}
+
+/// The program that was read, where the tokens end: none where something has begun that isn't whole,
+/// and where nothing was read.
+#[tactic(auto, using(crate::proofs::Turns::finish_done, crate::proofs::Turns::finish_none, crate::proofs::Turns::finish_some))]
+pub fn finish(alloc: Global, state: State) -> Result<Option<Program>, NoMemory>
+    ensures { IfOk result (λ o. option_map program_tree o ≡ finish_of (state_of state)) }
+{
+    match state {
+        State::Items(items) => {
+            if items.len() == 0 {
+                return Ok(None);
+            }
+            Ok(Some(Program { items }))
+        }
+        State::Done(stmt, frames) => {
+            let (stmt, frames) = close(alloc, stmt, frames, true)?;
+            whole(stmt, frames)
+        }
+        _ => Ok(None),
+    }
+}
