@@ -106,7 +106,14 @@ fn agrees_on_fronts(rt: HostRuntime) -> Result<(), Fail> {
     let comma = Sort::Expr(Level::Comma);
     let count = compare(&rt, rt.alloc(), comma, Grown::Fronts, "x(),=?:si", 5)?;
     assert_eq!(rt; count, 1_639);
-    let count = compare(&rt, rt.alloc(), Sort::Spec, Grown::Fronts, "ilutx{};*[1],", 6)?;
+    let count = compare(
+        &rt,
+        rt.alloc(),
+        Sort::Spec,
+        Grown::Fronts,
+        "ilutx{};*[1],",
+        6,
+    )?;
     assert_eq!(rt; count, 1_054);
     Ok(())
 }
