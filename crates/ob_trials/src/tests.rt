@@ -1,0 +1,13 @@
+//! The parsers against tables that were worked out by hand from the grammar, and against a slow
+//! recogniser that was written from it.
+
+mod answers;
+mod depth;
+mod expressions;
+mod grammar;
+mod lists;
+mod prefixes;
+mod program_answers;
+mod programs;
+mod show;
+mod show_programs;
