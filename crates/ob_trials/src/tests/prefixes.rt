@@ -84,7 +84,7 @@ fn long(alloc: Global, statements: u32) -> Result<Vec<u8>, AllocError> {
 
 #[test]
 fn reads_a_long_program(rt: HostRuntime) -> Result<(), Fail> {
-    let source = long(rt.alloc(), 4_000)?;
+    let source = long(rt.alloc(), 400)?;
     let answer = program_answer(rt.alloc(), source.as_slice())?;
     assert_eq!(rt; answer.as_str(), "whole");
     Ok(())
