@@ -7,6 +7,12 @@
 //! Beside the traits stand devices in memory, whose failing calls are chosen by a list, and the
 //! adapters over the reader, writer and files of std, which tell nothing of content. Every layer
 //! above shares `NoMemory` and the byte list `Text`. Stands on std alone.
+//!
+//! `boxed` and its kin, `push_on`, `with_last`, `listed` and `let_go` put values into boxes and
+//! lists, and let them go. Each is generic, so its own exits let go of a type that isn't known
+//! there: a caller hands its trees to them, and has one `?` at which it owns none. That is for the
+//! prover's sake: an exit at which a value of a large enum is still owned is checked for each of its
+//! variants.
 #![tactic(auto)]
 
 pub use faults::Failed;
@@ -14,6 +20,9 @@ pub use folder::{FileAnswer, Folder};
 pub use mem_folder::MemFolder;
 pub use mem_sink::MemSink;
 pub use mem_source::MemSource;
+pub use owned::{
+    boxed, boxed_three, boxed_two, boxed_with, let_go, listed, push_on, push_with, with_last,
+};
 pub use sink::{Sink, write_all};
 pub use source::Source;
 pub use std_folder::StdFolder;
@@ -26,6 +35,7 @@ mod folder;
 mod mem_folder;
 mod mem_sink;
 mod mem_source;
+mod owned;
 mod schedule;
 mod sink;
 mod source;

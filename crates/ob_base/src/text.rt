@@ -1,4 +1,4 @@
-ghost use Rattle.std.specs.Prelude.{◌≡◌, ◌++◌, [], ◌∷◌, OnOk, OnErr};
+ghost use Rattle.std.specs.Prelude.{◌≡◌, ◌++◌, [], ◌∷◌, IfOk, OnOk, OnErr};
 
 use std::alloc::{AllocError, AllocFailed, Global};
 use std::marker::Model;
@@ -56,6 +56,15 @@ impl Text {
         ensures { result.items ≡ self }
     {
         self.bytes
+    }
+
+    /// A list of its own with the same bytes.
+    pub fn copy(&self, alloc: Global) -> Result<Text, NoMemory>
+        ensures { IfOk result (λ copy. copy ≡ self.now) }
+    {
+        Ok(Text {
+            bytes: Vec::from_slice(alloc, self.bytes())?,
+        })
     }
 
     /// Puts one byte at the end.
