@@ -1,10 +1,13 @@
 -- Which accesses go astray. An object's bytes are numbered by offsets from 0 to its size, and every other offset lies
 -- outside it (C99 6.5.6). Memory is seen in granules of eight bytes, which are numbered by whole numbers, negative ones too.
-use Rattle.std.specs.Prelude.{ℕ, ◌+◌, ◌/◌, ◌%◌, ◌^◌, Bool, true, false, ◌==◌, ◌&&◌, nat_le, nat_lt, not, ℤ, pos, negsuc, ◌+ℤ◌, ◌≤ℤ◌, unsigned_abs}
+use Rattle.std.specs.Prelude.{ℕ, ◌+◌, ◌/◌, ◌%◌, Bool, true, false, ◌==◌, ◌&&◌, ◌||◌, nat_le, nat_lt, not, ℤ, pos, negsuc, ◌+ℤ◌, ◌≤ℤ◌, unsigned_abs}
 use Rattle.std.specs.Int.{int_div_euclid, int_rem_euclid}
 use Rattle.ob_words.specs.Types.{width}
+use Rattle.ob_model.specs.declared.strays.Act.{Act}
+use Rattle.ob_model.specs.declared.strays.StrayEvent.{StrayEvent}
 use Rattle.ob_model.specs.declared.values.LoadKind.{LoadKind}
 use Rattle.ob_model.specs.declared.values.LoadKind.TheVariants.{Num, Ptr}
+use Rattle.ob_model.specs.Limits.{most_offset}
 
 -- the bytes that a load or store moves
 abbrev pub bytes_of_kind : LoadKind → ℕ
@@ -23,9 +26,10 @@ is_inside size (negsuc n) k = false
 abbrev pub is_aligned : ℤ → ℕ → Bool
 is_aligned offset k = unsigned_abs offset % k == 0
 
--- an access through a pointer goes astray; one through null always does
-abbrev pub is_stray : ℕ → ℤ → ℕ → Bool
-is_stray size offset k = not (is_aligned offset k && is_inside size offset k)
+-- an access goes astray where its pointer is a freed object's, where its size doesn't divide the offset, and where it isn't
+-- inside; one through null always does
+abbrev pub is_stray : Bool → ℕ → ℤ → ℕ → Bool
+is_stray freed size offset k = freed || not (is_aligned offset k && is_inside size offset k)
 
 -- the granule of an offset, rounded down, and the place of its byte there
 abbrev pub granule : ℤ → ℤ
@@ -60,10 +64,16 @@ abbrev pub reach_if : Bool → Reach → Reach
 reach_if true astray = astray
 reach_if false astray = inside
 
--- an ill-aligned access is never kept
-abbrev pub reach : Bool → ℕ → ℤ → ℕ → Reach
-reach keeps size offset k = reach_if (is_stray size offset k) (stray_reach (keeps && is_aligned offset k) (is_own size offset))
+-- how far an access reaches, by whether stray accesses are kept, whether its object is freed, the object's size, its offset and
+-- its own size; one through a freed object's pointer is never kept, and neither is an ill-aligned one
+abbrev pub reach : Bool → Bool → ℕ → ℤ → ℕ → Reach
+reach keeps freed size offset k =
+    reach_if (is_stray freed size offset k) (stray_reach (keeps && (not freed && is_aligned offset k)) (is_own size offset))
 
 -- a displacement, or an offset, that lies outside -2^62 to 2^62
 abbrev pub is_far : ℤ → Bool
-is_far offset = nat_lt (2 ^ 62) (unsigned_abs offset)
+is_far offset = nat_lt most_offset (unsigned_abs offset)
+
+-- a stray access as it is told, before its effect; through null the object is 0 and the offset is the displacement
+abbrev pub stray_event : ℕ → Act → ℕ → ℤ → ℕ → StrayEvent
+stray_event line act object offset size = record { line = line; act = act; object = object; offset = offset; size = size }

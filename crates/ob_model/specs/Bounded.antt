@@ -39,6 +39,6 @@ after_store cap object granule cell es = take cap (put_first object granule cell
 abbrev pub dropped : {C : Type 0} → ℕ → ℕ → ℤ → C → List (Listed C) → Option (Listed C)
 dropped cap object granule cell es = slice_get (put_first object granule cell es) cap
 
--- the list without the granules of the objects that die
+-- the list without the granules of the objects that leave it: those that die and those that are freed
 abbrev pub surviving_cells : {C : Type 0} → (ℕ → Bool) → List (Listed C) → List (Listed C)
-surviving_cells dies es = filter (λ e. not (dies e.object)) es
+surviving_cells leaves es = filter (λ e. not (leaves e.object)) es

@@ -1,7 +1,8 @@
 -- Out-of-bounds descriptors (Ruwase and Lam, NDSS 2004): a pointer that has left its object is kept as a pair of the object
 -- and its offset in bytes, and the machine holds the word of the slot that the pair stands in.
-use Rattle.std.specs.Prelude.{◌≡◌, ℕ, ◌+◌, ◌-◌, ◌*◌, ◌/◌, ◌%◌, ◌^◌, ℤ, Bool, false, ◌&&◌, ◌==◌, nat_le, List, [], ◌∷◌, ◌++◌, length, Option, Some, None, if◌then◌else◌, map, position, is_none, is_some, count_by, unwrap_or, slice_index_or, slice_set}
+use Rattle.std.specs.Prelude.{◌≡◌, ℕ, ◌+◌, ◌-◌, ◌*◌, ◌/◌, ◌%◌, ℤ, Bool, false, ◌&&◌, ◌==◌, nat_le, List, [], ◌∷◌, ◌++◌, length, Option, Some, None, if◌then◌else◌, map, position, is_none, is_some, count_by, unwrap_or, slice_index_or, slice_set}
 use Rattle.std.specs.Ordering.{int_eq}
+use Rattle.ob_model.specs.Limits.{slots_start, slot_distance}
 
 -- an object and an offset in bytes, which may be negative
 abbrev pub Pair : Type 0
@@ -41,14 +42,14 @@ IsInterned slots = (i j : ℕ) (pair : Pair) → pair_in slots i ≡ Some pair �
 
 -- the word of slot k
 abbrev pub word_of : ℕ → ℕ
-word_of k = 2 ^ 40 + 16 * k
+word_of k = slots_start + slot_distance * k
 
 -- whether a word is that of a slot, and the pair that such a word names
 abbrev pub is_slot_word : ℕ → Bool
-is_slot_word w = nat_le (2 ^ 40) w && (w - 2 ^ 40) % 16 == 0
+is_slot_word w = nat_le slots_start w && (w - slots_start) % slot_distance == 0
 
 abbrev pub named_pair : Slots → ℕ → Option Pair
-named_pair slots w = if is_slot_word w then pair_in slots ((w - 2 ^ 40) / 16) else None
+named_pair slots w = if is_slot_word w then pair_in slots ((w - slots_start) / slot_distance) else None
 
 -- ---- a new pair
 
@@ -68,7 +69,7 @@ put_slot (Some k) pair slots = slice_set slots k (Some pair)
 abbrev pub with_pair : Pair → Slots → Slots
 with_pair pair slots = put_slot (vacant slots) pair slots
 
--- ---- death
+-- ---- death; a freed object that stays known keeps its pairs
 
 -- whether a slot holds a pair of an object that dies
 abbrev pub is_dying : (ℕ → Bool) → Option Pair → Bool

@@ -53,7 +53,7 @@ without_place place blocks = filter (λ b. not (b.place == place)) blocks
 
 -- ---- the heap's list
 
--- the block of an object of the heap, with the object's number
+-- the block of a live or freed object of the heap, with the object's number
 pub record Allocated : Type 0 where
   pub object : ℕ
   pub place : ℕ
@@ -65,7 +65,7 @@ block_of a = record { place = a.place; length = a.length }
 abbrev pub blocks_of : List Allocated → List Block
 blocks_of all = map block_of all
 
--- the list in order of places, with one more, and without the objects that die
+-- the list in order of places, with one more, and without the objects that die; a freed object that stays known keeps its block
 abbrev pub with_allocated : Allocated → List Allocated → List Allocated
 with_allocated a [] = a ∷ []
 with_allocated a (b ∷ bs) = before_or_after (nat_lt a.place b.place) a b bs (with_allocated a bs)

@@ -7,6 +7,7 @@ use Rattle.ob_model.specs.Accesses.{IsInside, is_aligned, is_stray, granule, pla
 use Rattle.ob_model.specs.declared.endings.Ending.{Ending}
 use Rattle.ob_model.specs.declared.endings.Ending.TheVariants.{Ended}
 use Rattle.ob_model.specs.declared.settings.Mode.TheVariants.{Oblivious}
+use Rattle.ob_model.specs.declared.settings.Profile.TheVariants.{One}
 use Rattle.ob_model.specs.declared.settings.RunSettings.{RunSettings}
 use Rattle.ob_model.specs.Endings.{Agrees, Outcome, plain, status_of}
 use Rattle.ob_model.specs.Manufactured.{place_after}
@@ -30,22 +31,28 @@ OwnGranulesAreCounted =
     (size : ℕ) (offset : ℤ) →
     (is_own size offset ≡ true) ↔ ((pos 0 ≤ℤ granule offset) × (granule offset <ℤ pos (own_granules size)))
 
--- an access is astray unless its size divides its offset and its bytes lie in the object
+-- an access is astray unless its object isn't freed, its size divides its offset and its bytes lie in the object
 abbrev pub StraysAreTheOthers : Type 0
 StraysAreTheOthers =
-    (size : ℕ) (offset : ℤ) (k : ℕ) →
-    (is_stray size offset k ≡ false) ↔ ((unsigned_abs offset % k ≡ 0) × IsInside size offset k)
+    (freed : Bool) (size : ℕ) (offset : ℤ) (k : ℕ) →
+    (is_stray freed size offset k ≡ false) ↔ ((freed ≡ false) × (unsigned_abs offset % k ≡ 0) × IsInside size offset k)
 
--- an access that isn't astray stays inside; a stray one vanishes where strays aren't kept, and where it is ill aligned
+-- an access that isn't astray stays inside; a stray one vanishes where strays aren't kept, where it is ill aligned, and through
+-- a freed object's pointer
 abbrev pub OthersStayInside : Type 0
-OthersStayInside = (keeps : Bool) (size : ℕ) (offset : ℤ) (k : ℕ) → is_stray size offset k ≡ false → reach keeps size offset k ≡ inside
+OthersStayInside =
+    (keeps freed : Bool) (size : ℕ) (offset : ℤ) (k : ℕ) → is_stray freed size offset k ≡ false → reach keeps freed size offset k ≡ inside
 
 abbrev pub StraysVanish : Type 0
-StraysVanish = (size : ℕ) (offset : ℤ) (k : ℕ) → is_stray size offset k ≡ true → reach false size offset k ≡ vanishing
+StraysVanish =
+    (freed : Bool) (size : ℕ) (offset : ℤ) (k : ℕ) → is_stray freed size offset k ≡ true → reach false freed size offset k ≡ vanishing
 
 abbrev pub IllAlignedVanish : Type 0
 IllAlignedVanish =
-    (keeps : Bool) (size : ℕ) (offset : ℤ) (k : ℕ) → is_aligned offset k ≡ false → reach keeps size offset k ≡ vanishing
+    (keeps freed : Bool) (size : ℕ) (offset : ℤ) (k : ℕ) → is_aligned offset k ≡ false → reach keeps freed size offset k ≡ vanishing
+
+abbrev pub FreedVanish : Type 0
+FreedVanish = (keeps : Bool) (size : ℕ) (offset : ℤ) (k : ℕ) → reach keeps true size offset k ≡ vanishing
 
 -- ---- the heap
 
@@ -182,7 +189,7 @@ PlainOutcomesAreEqual = (run meaning : Outcome) (e : Ending) → meaning.finish 
 
 -- the settings that a program is run with unless others are given
 abbrev pub usual : RunSettings
-usual = record { mode = Oblivious; store = 65536; away = 65536; heap = 4194304 }
+usual = record { mode = Oblivious; store = 65536; away = 65536; heap = 4194304; profile = One }
 
 abbrev pub UsualSettingsAreFit : Type 0
 UsualSettingsAreFit = IsFit usual

@@ -1,7 +1,11 @@
+pub mod Limits
 pub mod Accesses
 pub mod Ordered
 pub mod Heap
+pub mod Objects
 pub mod Entries
+pub mod Pointers
+pub mod Shown
 pub mod Descriptors
 pub mod Cells
 pub mod Manufactured

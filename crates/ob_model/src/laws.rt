@@ -1,4 +1,4 @@
-ghost use Rattle.ob_model.specs.Laws.{GranulesHaveEightPlaces, OwnGranulesAreCounted, StraysAreTheOthers, OthersStayInside, StraysVanish, IllAlignedVanish, HeapIsFirstFit, BlocksAreInserted, OneBlockLeaves, WordsNamePairs, OtherWordsNameNothing, LoadMovesToFront, OtherLoadsChangeNothing, StoreMovesToFront, FullListDropsItsLast, StoredIsListed, OthersStayListed, WrittenIsRead, KindsAreKept, CellsHoldWords, OwnStatusIsBelow, OtherStatusIsAbove, StatusOfSmallNumbers, OutcomesAgree, PlainOutcomesAreEqual, UsualSettingsAreFit, PlacesStayInTheCycle};
+ghost use Rattle.ob_model.specs.Laws.{GranulesHaveEightPlaces, OwnGranulesAreCounted, StraysAreTheOthers, OthersStayInside, StraysVanish, IllAlignedVanish, FreedVanish, HeapIsFirstFit, BlocksAreInserted, OneBlockLeaves, WordsNamePairs, OtherWordsNameNothing, LoadMovesToFront, OtherLoadsChangeNothing, StoreMovesToFront, FullListDropsItsLast, StoredIsListed, OthersStayListed, WrittenIsRead, KindsAreKept, CellsHoldWords, OwnStatusIsBelow, OtherStatusIsAbove, StatusOfSmallNumbers, OutcomesAgree, PlainOutcomesAreEqual, UsualSettingsAreFit, PlacesStayInTheCycle};
 
 /// A granule has eight places, and an object's own granules are those that its bytes touch.
 pub fn law_granules()
@@ -6,13 +6,14 @@ pub fn law_granules()
     ensures own { OwnGranulesAreCounted }
 {}
 
-/// An access is astray unless it is aligned and inside. A stray access vanishes where strays aren't kept,
-/// and where it is ill aligned.
+/// An access is astray unless its object isn't freed and it is aligned and inside. A stray access vanishes
+/// where strays aren't kept, where it is ill aligned, and through a freed object's pointer.
 pub fn law_strays()
     ensures others { StraysAreTheOthers }
     ensures inside { OthersStayInside }
     ensures vanishing { StraysVanish }
     ensures ill_aligned { IllAlignedVanish }
+    ensures freed { FreedVanish }
 {}
 
 /// The heap's place for a block is the least multiple of 16 where it fits; there is none only where no

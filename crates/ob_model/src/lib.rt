@@ -12,9 +12,9 @@ pub use laws::{
     law_heap_blocks, law_recency, law_settings, law_status, law_strays,
 };
 pub use objects::{Entry, Sort};
-pub use settings::{Mode, RunSettings};
+pub use settings::{Mode, Profile, RunSettings};
 pub use strays::{Act, StrayEvent};
-pub use values::{Cell, LoadKind, Value};
+pub use values::{Cell, LoadKind, Shown, Value};
 
 mod accesses;
 mod endings;

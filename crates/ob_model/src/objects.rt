@@ -6,7 +6,7 @@ pub enum Sort {
     Heap,
 }
 
-/// A live object: the address of its first byte, its size in bytes, its number and its storage duration.
+/// An object of the machine: the address of its first byte, its size in bytes, its number and its storage duration.
 #[derive(Clone, Copy, Debug, PartialEq, Eq)]
 pub struct Entry {
     pub base: u64,

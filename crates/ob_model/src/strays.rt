@@ -7,7 +7,7 @@ pub enum Act {
 }
 
 /// A stray access: its source line, what was done, the object's number (0 through the null pointer), the
-/// offset in bytes, and the size in bytes (0 for `Free`).
+/// offset in bytes (through the null pointer the displacement), and the size in bytes (0 for `Free`).
 #[derive(Clone, Copy, Debug, PartialEq, Eq)]
 pub struct StrayEvent {
     pub line: u32,

@@ -9,6 +9,14 @@ pub enum Value {
     Ptr { object: u64, offset: i64 },
 }
 
+/// How the value of a variable shows: a number, the null pointer, or any other pointer.
+#[derive(Clone, Copy, Debug, PartialEq, Eq)]
+pub enum Shown {
+    Num(i128),
+    Null,
+    Pointer,
+}
+
 /// What a load or store moves: a number of an integer type, or a pointer.
 #[derive(Clone, Copy, Debug, PartialEq, Eq)]
 pub enum LoadKind {

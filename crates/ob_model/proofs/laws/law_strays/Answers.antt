@@ -1,4 +1,4 @@
-use Rattle.ob_model.proofs.Astray.{strays_are_others, others_inside, strays_vanish, ill_aligned_vanish}
+use Rattle.ob_model.proofs.Astray.{strays_are_others, others_inside, strays_vanish, ill_aligned_vanish, freed_vanish}
 use Rattle.ob_model.proofs.laws.law_strays.Goals as goal
 
 pub returns-clause-others : goal.returns-clause-others
@@ -12,3 +12,6 @@ returns-clause-vanishing c = strays_vanish
 
 pub returns-clause-ill_aligned : goal.returns-clause-ill_aligned
 returns-clause-ill_aligned c = ill_aligned_vanish
+
+pub returns-clause-freed : goal.returns-clause-freed
+returns-clause-freed c = freed_vanish
