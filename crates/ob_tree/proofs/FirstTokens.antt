@@ -13,10 +13,10 @@ use Rattle.ob_tree.specs.Integers.{is_integer}
 use Rattle.ob_tree.specs.Levels.{is_unary, level_of}
 use Rattle.ob_tree.specs.Valid.{Valid, ValidSpec}
 use Rattle.ob_tree.specs.Places.{here}
-use Rattle.ob_tree.proofs.Frames.{Frame, InParen, InCall, InSize, InType, InStruct, Body, Operand, Open, Size, SizeOpen, Called, Specifier, Members, top_hole}
-use Rattle.ob_tree.proofs.Machine.{operand, opened, size_opened, sized, called, members_to, specifier, is_spec_word, run}
-use Rattle.ob_tree.proofs.Settled.{le-yes, infix-most}
-use Rattle.ob_tree.proofs.SignSteps.{no}
+use Rattle.ob_tree.specs.ExprStates.{PendingNode, InParen, InCall, InSize, InType, InStruct, StructBody, BeforeOperand, Open, Size, SizeOpen, Called, Specifier, Members, top_operand_level}
+use Rattle.ob_tree.specs.ExprMachine.{operand, opened, size_opened, sized, called, members_to, specifier, is_spec_word, run}
+use Rattle.ob_tree.proofs.Unreduced.{le-yes, infix-most}
+use Rattle.ob_tree.proofs.SignShifts.{no}
 
 -- an operand can begin so
 abbrev pub BeginsOperand : TokenKind → Type 0
@@ -34,9 +34,9 @@ pub record FirstOf (Fits : TokenKind → Type 0) (tokens : List TokenKind) : Typ
 pub first-more : (Fits : TokenKind → Type 0) (tokens more : List TokenKind) → FirstOf Fits tokens → FirstOf Fits (tokens ++ more)
 first-more Fits tokens more f = record { token = f.token; rest = f.rest ++ more; are = ap (λ ks. ks ++ more) f.are; fits = f.fits }
 
-step-begins : (down : Bool) → BeginsOperand (kind.Sign (step_sign down))
-step-begins false = tt
-step-begins true = tt
+shift-begins : (down : Bool) → BeginsOperand (kind.Sign (step_sign down))
+shift-begins false = tt
+shift-begins true = tt
 
 unary-begins : (s : Sign) → IsTrue (is_unary s) → BeginsOperand (kind.Sign s)
 unary-begins sign.CloseParen h = no h
@@ -63,7 +63,7 @@ first-operand (ExprTree.Member m b name) v =
 first-operand (ExprTree.Arrow m b name) v =
     first-more BeginsOperand (spell b) (kind.Sign sign.Arrow ∷ (kind.Name name ∷ [])) (first-operand b v.0)
 first-operand (ExprTree.Step m false down e) v =
-    record { token = kind.Sign (step_sign down); rest = spell e; are = refl; fits = step-begins down }
+    record { token = kind.Sign (step_sign down); rest = spell e; are = refl; fits = shift-begins down }
 first-operand (ExprTree.Step m true down e) v = first-more BeginsOperand (spell e) (kind.Sign (step_sign down) ∷ []) (first-operand e v.0)
 first-operand (ExprTree.Unary m s e) v = record { token = kind.Sign s; rest = spell e; are = refl; fits = unary-begins s v.0 }
 first-operand (ExprTree.SizeExpr m e) v = record { token = kind.Word word.Sizeof; rest = spell e; are = refl; fits = refl }
@@ -76,7 +76,7 @@ first-operand (ExprTree.Cond m c x y) v =
 first-operand (ExprTree.Join m op l r) v = first-more BeginsOperand (spell l) (kind.Sign (infix_sign op) ∷ spell r) (first-operand l v.1)
 
 -- Behind an opening parenthesis that may be one of a cast, an operand is read as behind any other.
-pub opened-operand : (least : ℕ) (m paren : Mark) (k : TokenKind) (fs : List Frame) → BeginsOperand k
+pub opened-operand : (least : ℕ) (m paren : Mark) (k : TokenKind) (fs : List PendingNode) → BeginsOperand k
     → opened least m k paren fs ≡ operand m k (InParen paren ∷ fs)
 opened-operand least m paren (kind.Word w) fs b = rw b refl
 opened-operand least m paren (kind.Name name) fs b = refl
@@ -84,7 +84,7 @@ opened-operand least m paren (kind.Number value ty) fs b = refl
 opened-operand least m paren (kind.Str s) fs b = refl
 opened-operand least m paren (kind.Sign s) fs b = refl
 
-pub size-opened-operand : (m size paren : Mark) (k : TokenKind) (fs : List Frame) → BeginsOperand k
+pub size-opened-operand : (m size paren : Mark) (k : TokenKind) (fs : List PendingNode) → BeginsOperand k
     → size_opened m k size paren fs ≡ operand m k (InParen paren ∷ (InSize size ∷ fs))
 size-opened-operand m size paren (kind.Word w) fs b = rw b refl
 size-opened-operand m size paren (kind.Name name) fs b = refl
@@ -92,7 +92,7 @@ size-opened-operand m size paren (kind.Number value ty) fs b = refl
 size-opened-operand m size paren (kind.Str s) fs b = refl
 size-opened-operand m size paren (kind.Sign s) fs b = refl
 
-pub called-operand : (m call : Mark) (name : List ℕ) (k : TokenKind) (fs : List Frame) → BeginsOperand k
+pub called-operand : (m call : Mark) (name : List ℕ) (k : TokenKind) (fs : List PendingNode) → BeginsOperand k
     → called m k call name fs ≡ operand m k (InCall call name ExprTrees.NoArguments ∷ fs)
 called-operand m call name (kind.Sign sign.CloseParen) fs b = absurd b
 called-operand m call name (kind.Sign s) fs b = refl
@@ -125,9 +125,9 @@ paren-first tokens f = record {
   begins = f.fits;
 }
 
-step-no-paren : (down : Bool) → NoParen (kind.Sign (step_sign down))
-step-no-paren false = tt
-step-no-paren true = tt
+shift-no-paren : (down : Bool) → NoParen (kind.Sign (step_sign down))
+shift-no-paren false = tt
+shift-no-paren true = tt
 
 unary-no-paren : (s : Sign) → IsTrue (is_unary s) → NoParen (kind.Sign s)
 unary-no-paren sign.OpenParen h = no h
@@ -153,7 +153,7 @@ first-unary (ExprTree.Member m b name) v h =
 first-unary (ExprTree.Arrow m b name) v h =
     unary-more (spell b) (kind.Sign sign.Arrow ∷ (kind.Name name ∷ [])) (first-unary b v.0 (omega (arith, v.1)))
 first-unary (ExprTree.Step m false down e) v h =
-    inl (record { token = kind.Sign (step_sign down); rest = spell e; are = refl; fits = step-no-paren down })
+    inl (record { token = kind.Sign (step_sign down); rest = spell e; are = refl; fits = shift-no-paren down })
 first-unary (ExprTree.Step m true down e) v h =
     unary-more (spell e) (kind.Sign (step_sign down) ∷ []) (first-unary e v.0 (omega (arith, v.1)))
 first-unary (ExprTree.Unary m s e) v h = inl (record { token = kind.Sign s; rest = spell e; are = refl; fits = unary-no-paren s v.0 })
@@ -164,7 +164,7 @@ first-unary (ExprTree.Cast m t e) v h = absurd (omega arith)
 first-unary (ExprTree.Cond m c x y) v h = absurd (omega arith)
 first-unary (ExprTree.Join m op l r) v h = absurd (omega (arith, infix-most op))
 
-pub sized-operand : (m size : Mark) (k : TokenKind) (fs : List Frame) → NoParen k → sized m k size fs ≡ operand m k (InSize size ∷ fs)
+pub sized-operand : (m size : Mark) (k : TokenKind) (fs : List PendingNode) → NoParen k → sized m k size fs ≡ operand m k (InSize size ∷ fs)
 sized-operand m size (kind.Sign sign.OpenParen) fs n = absurd n
 sized-operand m size (kind.Sign s) fs n = refl
 sized-operand m size k fs n = refl
@@ -199,15 +199,15 @@ first-spec (SpecTree.Struct f tag ms) v = record {
   fits = refl;
 }
 
-pub opened-spec : (least : ℕ) (m paren : Mark) (k : TokenKind) (fs : List Frame) → BeginsSpec k → top_hole least fs ≤ 13
+pub opened-spec : (least : ℕ) (m paren : Mark) (k : TokenKind) (fs : List PendingNode) → BeginsSpec k → top_operand_level least fs ≤ 13
     → opened least m k paren fs ≡ specifier m.first k (InType paren false ∷ fs)
-opened-spec least m paren (kind.Word w) fs b h = rw (b, le-yes (top_hole least fs) 13 h) refl
+opened-spec least m paren (kind.Word w) fs b h = rw (b, le-yes (top_operand_level least fs) 13 h) refl
 opened-spec least m paren (kind.Name name) fs b h = absurd b
 opened-spec least m paren (kind.Number value ty) fs b h = absurd b
 opened-spec least m paren (kind.Str s) fs b h = absurd b
 opened-spec least m paren (kind.Sign s) fs b h = absurd b
 
-pub size-opened-spec : (m size paren : Mark) (k : TokenKind) (fs : List Frame) → BeginsSpec k
+pub size-opened-spec : (m size paren : Mark) (k : TokenKind) (fs : List PendingNode) → BeginsSpec k
     → size_opened m k size paren fs ≡ specifier m.first k (InType size true ∷ fs)
 size-opened-spec m size paren (kind.Word w) fs b = rw b refl
 size-opened-spec m size paren (kind.Name name) fs b = absurd b
@@ -215,7 +215,7 @@ size-opened-spec m size paren (kind.Number value ty) fs b = absurd b
 size-opened-spec m size paren (kind.Str s) fs b = absurd b
 size-opened-spec m size paren (kind.Sign s) fs b = absurd b
 
-pub members-spec : (p : ℕ) (k : TokenKind) (b : Body) (fs : List Frame) → BeginsSpec k → members_to p k b fs ≡ specifier p k (InStruct b ∷ fs)
+pub members-spec : (p : ℕ) (k : TokenKind) (b : StructBody) (fs : List PendingNode) → BeginsSpec k → members_to p k b fs ≡ specifier p k (InStruct b ∷ fs)
 members-spec p (kind.Word w) b fs h = refl
 members-spec p (kind.Name name) b fs h = absurd h
 members-spec p (kind.Number value ty) b fs h = absurd h
@@ -231,18 +231,18 @@ paren-take k tokens f = record { token = f.token; rest = take k f.rest; are = ap
 
 -- Runs over what begins so.
 module _ (lines : ℕ → ℕ) (least p : ℕ) where
-  pub open-list : (paren : Mark) (ks : List TokenKind) (fs : List Frame) → FirstOf BeginsOperand ks
-      → run lines least p ks (Some (Open paren fs)) ≡ run lines least p ks (Some (Operand (InParen paren ∷ fs)))
+  pub open-list : (paren : Mark) (ks : List TokenKind) (fs : List PendingNode) → FirstOf BeginsOperand ks
+      → run lines least p ks (Some (Open paren fs)) ≡ run lines least p ks (Some (BeforeOperand (InParen paren ∷ fs)))
   open-list paren ks fs f =
       rw f.are (ap (λ o. run lines least (p + 1) f.rest o) (opened-operand least (here lines p) paren f.token fs f.fits))
 
-  pub call-list : (call : Mark) (name : List ℕ) (ks : List TokenKind) (fs : List Frame) → FirstOf BeginsOperand ks
-      → run lines least p ks (Some (Called call name fs)) ≡ run lines least p ks (Some (Operand (InCall call name ExprTrees.NoArguments ∷ fs)))
+  pub call-list : (call : Mark) (name : List ℕ) (ks : List TokenKind) (fs : List PendingNode) → FirstOf BeginsOperand ks
+      → run lines least p ks (Some (Called call name fs)) ≡ run lines least p ks (Some (BeforeOperand (InCall call name ExprTrees.NoArguments ∷ fs)))
   call-list call name ks fs f =
       rw f.are (ap (λ o. run lines least (p + 1) f.rest o) (called-operand (here lines p) call name f.token fs f.fits))
 
-  pub size-list : (size : Mark) (ks : List TokenKind) (fs : List Frame) → UnaryFirst ks
-      → run lines least p ks (Some (Size size fs)) ≡ run lines least p ks (Some (Operand (InSize size ∷ fs)))
+  pub size-list : (size : Mark) (ks : List TokenKind) (fs : List PendingNode) → UnaryFirst ks
+      → run lines least p ks (Some (Size size fs)) ≡ run lines least p ks (Some (BeforeOperand (InSize size ∷ fs)))
   size-list size ks fs (inl f) =
       rw f.are (ap (λ o. run lines least (p + 1) f.rest o) (sized-operand (here lines p) size f.token fs f.fits))
   size-list size ks fs (inr f) =
@@ -252,17 +252,17 @@ module _ (lines : ℕ → ℕ) (least p : ℕ) where
       ∙ ap (λ o. run lines least (p + 1 + 1) f.rest o) (sym (opened-operand least m (here lines p) f.token (InSize size ∷ fs) f.begins))
       )
 
-  pub open-spec-list : (paren : Mark) (ks : List TokenKind) (fs : List Frame) → FirstOf BeginsSpec ks → top_hole least fs ≤ 13
+  pub open-spec-list : (paren : Mark) (ks : List TokenKind) (fs : List PendingNode) → FirstOf BeginsSpec ks → top_operand_level least fs ≤ 13
       → run lines least p ks (Some (Open paren fs)) ≡ run lines least p ks (Some (Specifier (InType paren false ∷ fs)))
   open-spec-list paren ks fs f h =
       rw f.are (ap (λ o. run lines least (p + 1) f.rest o) (opened-spec least (here lines p) paren f.token fs f.fits h))
 
-  pub size-spec-list : (size paren : Mark) (ks : List TokenKind) (fs : List Frame) → FirstOf BeginsSpec ks
+  pub size-spec-list : (size paren : Mark) (ks : List TokenKind) (fs : List PendingNode) → FirstOf BeginsSpec ks
       → run lines least p ks (Some (SizeOpen size paren fs)) ≡ run lines least p ks (Some (Specifier (InType size true ∷ fs)))
   size-spec-list size paren ks fs f =
       rw f.are (ap (λ o. run lines least (p + 1) f.rest o) (size-opened-spec (here lines p) size paren f.token fs f.fits))
 
-  pub members-list : (b : Body) (ks : List TokenKind) (fs : List Frame) → FirstOf BeginsSpec ks
+  pub members-list : (b : StructBody) (ks : List TokenKind) (fs : List PendingNode) → FirstOf BeginsSpec ks
       → run lines least p ks (Some (Members b fs)) ≡ run lines least p ks (Some (Specifier (InStruct b ∷ fs)))
   members-list b ks fs f =
       rw f.are (ap (λ o. run lines least (p + 1) f.rest o) (members-spec p f.token b fs f.fits))

@@ -4,7 +4,7 @@ use Rattle.std.specs.Prelude.{IsTrue}
 use Rattle.ob_tree.specs.declared.tokens.Keyword.{Keyword}
 use Rattle.ob_tree.specs.declared.tokens.Keyword.TheVariants as word
 use Rattle.ob_tree.specs.Integers.{is_int_tail, is_long_tail, is_plain_integer, is_sign_tail, is_integer}
-use Rattle.ob_tree.proofs.SignSteps.{no}
+use Rattle.ob_tree.proofs.SignShifts.{no}
 
 int-tail-part : (xs : List Keyword) (w : Keyword) (ys : List Keyword) → IsTrue (is_int_tail (xs ++ w ∷ ys)) → IsTrue (is_int_tail (xs ++ w ∷ []))
 int-tail-part [] word.Int ys h = refl

@@ -13,11 +13,11 @@ use Rattle.ob_tree.specs.ProgramSpelling.{spell_static, spell_params, spell_func
 use Rattle.ob_tree.specs.ProgramValid.{ValidItem, ValidProgram, AreNamed, HasTag}
 use Rattle.ob_tree.specs.Places.{here, place_spec, width_spec}
 use Rattle.ob_tree.specs.ProgramPlaces.{width_static, width_param, width_params, width_item, place_list, place_params, place_files, place_block, place_item, place_program, PlacedProgram}
-use Rattle.ob_tree.proofs.SpecSteps.{length-stars}
-use Rattle.ob_tree.proofs.ProgramStates.{Definition, InBody, InBlock, Outer, Heading, Declaration, State, Items, Declare, Closed, Begin, Done}
-use Rattle.ob_tree.proofs.ProgramParts.{are_all_named, are_named}
-use Rattle.ob_tree.proofs.ProgramMachine.{begin_declaration, begin_body, step, run, finish}
-use Rattle.ob_tree.proofs.ProgramRuns.{Reads, nothing, token, ◌before◌, counted, respelled, shifted, restart}
+use Rattle.ob_tree.proofs.SpecShifts.{length-stars}
+use Rattle.ob_tree.specs.ProgramStates.{Definition, InBody, InBlock, FileScope, Heading, Declaration, State, Items, Declare, Closed, Begin, Done}
+use Rattle.ob_tree.specs.ProgramParts.{are_all_named, are_named}
+use Rattle.ob_tree.specs.ProgramMachine.{begin_declaration, begin_body, shift, run, finish}
+use Rattle.ob_tree.proofs.ProgramRuns.{RunsTo, nothing, token, ◌before◌, counted, respelled, relocated, restart}
 use Rattle.ob_tree.proofs.ProgramNames.{named, MayDeclare, read-function, StartsName, stars-first, name-starts, tagged, read-names}
 use Rattle.ob_tree.proofs.ProgramDeclarations.{BeginsDeclaration, read-head}
 use Rattle.ob_tree.proofs.ProgramThrough.{NotElse, declares-not-else, stmt-ends, read-block}
@@ -34,19 +34,19 @@ params-named lines p (ParamsTree.Listed xs) h = all-named lines p xs h
 
 -- Behind these items the state begins another one, and the program can end there.
 pub record Behind (items : ProgramTree) (s : State) : Type 0 where
-  pub next : (m : Mark) (k : TokenKind) → NotElse k → step m k s ≡ begin_declaration m k (Outer items)
+  pub next : (m : Mark) (k : TokenKind) → NotElse k → shift m k s ≡ begin_declaration m k (FileScope items)
   pub whole : finish s ≡ Some items
 
 pub record ReadsItem (lines : ℕ → ℕ) (p : ℕ) (i : ItemTree) (items : ProgramTree) (s : State) : Type 0 where
   pub state : State
-  pub reads : Reads lines p (spell_item i) s (p + width_item i) state
+  pub reads : RunsTo lines p (spell_item i) s (p + width_item i) state
   pub behind : Behind (items ++ place_item lines p i ∷ []) state
 
 finish-items : (items : ProgramTree) (i : ItemTree) → finish (Items (items ++ i ∷ [])) ≡ Some (items ++ i ∷ [])
 finish-items [] i = refl
 finish-items (x ∷ xs) i = refl
 
-pub may-declare : (items : ProgramTree) (xs : List FileTree) → AllByRecursion (MayDeclare (Outer items)) xs
+pub may-declare : (items : ProgramTree) (xs : List FileTree) → AllByRecursion (MayDeclare (FileScope items)) xs
 may-declare items [] = tt
 may-declare items (FileTree.Function n name a ps ∷ xs) = (tt, may-declare items xs)
 may-declare items (FileTree.Object o ∷ xs) = (tt, may-declare items xs)
@@ -60,14 +60,14 @@ module _ (lines : ℕ → ℕ) where
   -- a function with its body
   read-definition : (n : ℕ) (name : List ℕ) (ps : ParamsTree) (f b : ℕ) (body : BlockTrees) (fixed : Bool) (s : SpecTree) (items : ProgramTree) (st : State) (p z g a : ℕ)
       → ValidItem (ItemTree.Function z g fixed s n name a ps (StmtTree.Block f b body))
-      → ((k : TokenKind) → BeginsDeclaration k → step (here lines p) k st ≡ begin_declaration (here lines p) k (Outer items))
+      → ((k : TokenKind) → BeginsDeclaration k → shift (here lines p) k st ≡ begin_declaration (here lines p) k (FileScope items))
       → ReadsItem lines p (ItemTree.Function z g fixed s n name a ps (StmtTree.Block f b body)) items st
   read-definition n name ps f b body fixed s items st p z g a v same =
-      let o = Outer items in
+      let o = FileScope items in
       let r = p + width_static fixed in
       let q = r + width_spec s in
       let s' = place_spec lines r s in
-      let h : Heading = record { owner = o; first = p; line = lines p; fixed = fixed } in
+      let h : Heading = record { scope = o; first = p; line = lines p; fixed = fixed } in
       let d : Declaration = record { heading = h; spec = s'; names = [] } in
       let ps' = place_params lines (q + n + 2) ps in
       let c = q + n + width_params ps + 3 in
@@ -76,14 +76,14 @@ module _ (lines : ℕ → ℕ) where
       let start = Begin (InBlock c (lines c) BlockTrees.NoItems ∷ gs) in
       let whole = StmtTree.Block c (lines c) (place_block lines (c + 1) body) in
       let l : q + length (spell_function n name ps) ≡ c = omega (arith, length-function n name ps) in
-      let open_body : step (here lines c) (kind.Sign sign.OpenBrace) (Closed (named d n name (q + n)) ps') ≡ Some start =
+      let open_body : shift (here lines c) (kind.Sign sign.OpenBrace) (Closed (named d n name (q + n)) ps') ≡ Some start =
       ap (λ t. cond t (begin_body (here lines c) o (named d n name (q + n)) ps') None) (params-named lines (q + n + 2) ps v.3) in
       record {
         state = Done whole gs;
         reads = counted (
             respelled (append_assoc (spell_static fixed) (spell_spec s) (spell_function n name ps ++ spell_stmt (StmtTree.Block f b body))) (
             read-head lines o fixed s st p v.0 same
-            before restart (Declare d 0) StartsName (stars-first n name _) (name-starts h s' (here lines q)) (shifted l (read-function lines d n name ps q v.2 tt))
+            before restart (Declare d 0) StartsName (stars-first n name _) (name-starts h s' (here lines q)) (relocated l (read-function lines d n name ps q v.2 tt))
             before token (kind.Sign sign.OpenBrace) (c + 1) start open_body refl
             before read-block lines body c (lines c) BlockTrees.NoItems gs start (c + 1) v.5 (λ k x. refl)
             )
@@ -92,16 +92,16 @@ module _ (lines : ℕ → ℕ) where
       }
 
   pub read-item : (i : ItemTree) (items : ProgramTree) (s : State) (p : ℕ) → ValidItem i
-      → ((k : TokenKind) → BeginsDeclaration k → step (here lines p) k s ≡ begin_declaration (here lines p) k (Outer items))
+      → ((k : TokenKind) → BeginsDeclaration k → shift (here lines p) k s ≡ begin_declaration (here lines p) k (FileScope items))
       → ReadsItem lines p i items s
   read-item (ItemTree.Function f n fixed s stars name a ps (StmtTree.Block g b body)) items st p v same =
       read-definition stars name ps g b body fixed s items st p f n a v same
   read-item (ItemTree.Function f n fixed s stars name a ps _) items st p v same = absurd v.4
   read-item (ItemTree.Decls f n fixed s xs) items st p v same =
-      let o = Outer items in
+      let o = FileScope items in
       let r = p + width_static fixed in
       let q = r + width_spec s in
-      let h : Heading = record { owner = o; first = p; line = lines p; fixed = fixed } in
+      let h : Heading = record { scope = o; first = p; line = lines p; fixed = fixed } in
       let i' = ItemTree.Decls p (lines p) fixed (place_spec lines r s) (place_files lines q xs) in
       record {
         state = Items (items ++ i' ∷ []);
@@ -116,7 +116,7 @@ module _ (lines : ℕ → ℕ) where
 
   pub record ReadsItems (p : ℕ) (is items : ProgramTree) (s : State) : Type 0 where
     pub state : State
-    pub reads : Reads lines p (spell_program is) s (p + length (spell_program is)) state
+    pub reads : RunsTo lines p (spell_program is) s (p + length (spell_program is)) state
     pub whole : finish state ≡ Some (items ++ place_program lines p is)
 
   read-items : (is items : ProgramTree) (s : State) (p : ℕ) → AllByRecursion ValidItem is → Behind items s → ReadsItems p is items s

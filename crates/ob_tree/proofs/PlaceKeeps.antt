@@ -4,7 +4,7 @@ use Rattle.ob_tree.specs.Trees.{ExprTree, ExprTrees, TypeTree, SpecTree, MemberT
 use Rattle.ob_tree.specs.Levels.{level_of, left_level, right_level, step_level, mark_of}
 use Rattle.ob_tree.specs.Valid.{Valid, ValidArguments, ValidType, ValidSpec, ValidMembers, ValidMemberNames, ValidMemberName, ValidDims, HasMember, HasDeclarator, IsOf}
 use Rattle.ob_tree.specs.Places.{place, place_arguments, place_type, place_spec, place_members, place_objs, place_obj, place_dims, width, width_name, width_type, width_spec, width_objs, width_obj, signed, step_place}
-use Rattle.ob_tree.proofs.Frames.{at_sign}
+use Rattle.ob_tree.specs.ExprStates.{at_sign}
 
 module _ (lines : ℕ → ℕ) where
   pub level-place : (p : ℕ) (t : ExprTree) → level_of (place lines p t) ≡ level_of t

@@ -14,12 +14,12 @@ use Rattle.ob_tree.specs.Valid.{ValidSpec, ValidObjs}
 use Rattle.ob_tree.specs.ProgramValid.{ValidNames, ValidFile, ValidFiles, ValidLocal}
 use Rattle.ob_tree.specs.Places.{here, place_spec, place_objs, place_obj, width_spec, width_obj}
 use Rattle.ob_tree.specs.ProgramPlaces.{width_static, width_local, place_local, place_files}
-use Rattle.ob_tree.proofs.Machine as expr
+use Rattle.ob_tree.specs.ExprMachine as expr
 use Rattle.ob_tree.proofs.FirstTokens.{first-spec, BeginsSpec}
-use Rattle.ob_tree.proofs.ProgramStates.{Frame, InBlock, Owner, Inner, Start, Heading, ForDeclaration, ForStart, ForTest, State, Specifying, Optional, Begin, ForOpen}
-use Rattle.ob_tree.proofs.ProgramParts.{add_local, objects}
-use Rattle.ob_tree.proofs.ProgramMachine.{heading, optional, begin_declaration, begins_declaration, end_declaration, step}
-use Rattle.ob_tree.proofs.ProgramRuns.{Reads, token, ◌before◌, counted, respelled, arrives, shifted, restart, read-spec}
+use Rattle.ob_tree.specs.ProgramStates.{PendingStmt, InBlock, Scope, BlockScope, ForScope, Heading, ForDeclaration, ForStart, ForTest, State, Specifying, Optional, Begin, ForOpen}
+use Rattle.ob_tree.specs.ProgramParts.{add_local, objects}
+use Rattle.ob_tree.specs.ProgramMachine.{heading, optional, begin_declaration, begins_declaration, end_declaration, shift}
+use Rattle.ob_tree.proofs.ProgramRuns.{RunsTo, token, ◌before◌, counted, respelled, arrives, relocated, restart, read-spec}
 use Rattle.ob_tree.proofs.ProgramNames.{MayDeclare, read-names}
 
 -- What a declaration begins with.
@@ -32,28 +32,28 @@ spec-declares (kind.Word word.Static) h = refl
 spec-declares (kind.Word w) h = h
 spec-declares _ h = absurd h
 
-pub begin-spec : (m : Mark) (k : TokenKind) (o : Owner) → BeginsSpec k
-    → begin_declaration m k o ≡ step m k (Specifying (ForDeclaration (heading o m false)) (expr.Specifier []))
+pub begin-spec : (m : Mark) (k : TokenKind) (o : Scope) → BeginsSpec k
+    → begin_declaration m k o ≡ shift m k (Specifying (ForDeclaration (heading o m false)) (expr.Specifier []))
 begin-spec m (kind.Word word.Static) o h = let e : false ≡ true = h in cc
 begin-spec m (kind.Word w) o h = refl
 begin-spec m _ o h = absurd h
 
 -- `static` or not, and a specifier
-pub read-head : (lines : ℕ → ℕ) (o : Owner) (fixed : Bool) (spec : SpecTree) (s : State) (p : ℕ) → ValidSpec spec
-    → ((k : TokenKind) → BeginsDeclaration k → step (here lines p) k s ≡ begin_declaration (here lines p) k o)
-    → Reads lines p (spell_static fixed ++ spell_spec spec) s (p + width_static fixed + width_spec spec)
-    (Specifying (ForDeclaration (record { owner = o; first = p; line = lines p; fixed = fixed })) (expr.AfterSpec (place_spec lines (p + width_static fixed) spec) []))
+pub read-head : (lines : ℕ → ℕ) (o : Scope) (fixed : Bool) (spec : SpecTree) (s : State) (p : ℕ) → ValidSpec spec
+    → ((k : TokenKind) → BeginsDeclaration k → shift (here lines p) k s ≡ begin_declaration (here lines p) k o)
+    → RunsTo lines p (spell_static fixed ++ spell_spec spec) s (p + width_static fixed + width_spec spec)
+    (Specifying (ForDeclaration (record { scope = o; first = p; line = lines p; fixed = fixed })) (expr.AfterSpec (place_spec lines (p + width_static fixed) spec) []))
 read-head lines o false spec s p v same =
-    let h : Heading = record { owner = o; first = p; line = lines p; fixed = false } in
+    let h : Heading = record { scope = o; first = p; line = lines p; fixed = false } in
     let e : p ≡ p + 0 = omega arith in
-    shifted (let g : p + width_spec spec ≡ p + 0 + width_spec spec = omega arith in g) (
+    relocated (let g : p + width_spec spec ≡ p + 0 + width_spec spec = omega arith in g) (
     arrives (ap (λ z. Specifying (ForDeclaration h) (expr.AfterSpec (place_spec lines z spec) [])) e) (
     restart (Specifying (ForDeclaration h) (expr.Specifier [])) BeginsSpec (first-spec spec v) (λ k b. same k (spec-declares k b) ∙ begin-spec (here lines p) k o b)
     (read-spec lines (ForDeclaration h) spec p v)
     )
     )
 read-head lines o true spec s p v same =
-    let h : Heading = record { owner = o; first = p; line = lines p; fixed = true } in
+    let h : Heading = record { scope = o; first = p; line = lines p; fixed = true } in
     token (kind.Word word.Static) (p + 1) (Specifying (ForDeclaration h) (expr.Specifier [])) (same (kind.Word word.Static) refl) refl
     before read-spec lines (ForDeclaration h) spec (p + 1) v
 
@@ -86,30 +86,30 @@ pub valid-files : (s : SpecTree) (os : ObjTrees) → ValidNames s os → ValidFi
 valid-files s ObjTrees.NoDeclarators v = v
 valid-files s (ObjTrees.Declarator o os) v = (v.0, valid-more os v.1)
 
-pub may-declare : (o : Owner) (os : ObjTrees) → AllByRecursion (MayDeclare o) (files os)
+pub may-declare : (o : Scope) (os : ObjTrees) → AllByRecursion (MayDeclare o) (files os)
 may-declare o ObjTrees.NoDeclarators = tt
 may-declare o (ObjTrees.Declarator x os) = (tt, may-declare o os)
 
 -- the declarators of a declaration in a block, up to the semicolon
 pub read-objs : (lines : ℕ → ℕ) (h : Heading) (s : SpecTree) (r : ℕ) (os : ObjTrees) (p : ℕ) → ValidNames s os
-    → Reads lines p (spell_objs os ++ kind.Sign sign.Semi ∷ []) (Specifying (ForDeclaration h) (expr.AfterSpec (place_spec lines r s) []))
+    → RunsTo lines p (spell_objs os ++ kind.Sign sign.Semi ∷ []) (Specifying (ForDeclaration h) (expr.AfterSpec (place_spec lines r s) []))
     (p + length (spell_objs os ++ kind.Sign sign.Semi ∷ []))
     (end_declaration (record { heading = h; spec = place_spec lines r s; names = files (place_objs lines p os) }))
 read-objs lines h s r os p v =
     counted (
     respelled (ap (λ ks. ks ++ kind.Sign sign.Semi ∷ []) (all-files os)) (
     arrives (ap (λ ns. end_declaration (record { heading = h; spec = place_spec lines r s; names = ns })) (place-files lines p os))
-    (read-names lines h s r (files os) p (valid-files s os v) (may-declare h.owner os))
+    (read-names lines h s r (files os) p (valid-files s os v) (may-declare h.scope os))
     )
     )
 
 -- a declaration in a block
-pub read-local : (lines : ℕ → ℕ) (f n : ℕ) (items : BlockTrees) (fs : List Frame) (l : LocalTree) (s : State) (p : ℕ) → ValidLocal l
-    → ((k : TokenKind) → BeginsDeclaration k → step (here lines p) k s ≡ begin_declaration (here lines p) k (Inner f n items fs))
-    → Reads lines p (spell_local l) s (p + width_local l) (Begin (InBlock f n (add_local items (place_local lines p l)) ∷ fs))
+pub read-local : (lines : ℕ → ℕ) (f n : ℕ) (items : BlockTrees) (fs : List PendingStmt) (l : LocalTree) (s : State) (p : ℕ) → ValidLocal l
+    → ((k : TokenKind) → BeginsDeclaration k → shift (here lines p) k s ≡ begin_declaration (here lines p) k (BlockScope f n items fs))
+    → RunsTo lines p (spell_local l) s (p + width_local l) (Begin (InBlock f n (add_local items (place_local lines p l)) ∷ fs))
 read-local lines f n items fs l s p v same =
-    let o = Inner f n items fs in
-    let h : Heading = record { owner = o; first = p; line = lines p; fixed = l.fixed } in
+    let o = BlockScope f n items fs in
+    let h : Heading = record { scope = o; first = p; line = lines p; fixed = l.fixed } in
     let a = p + width_static l.fixed in
     let q = a + width_spec l.spec in
     counted (
@@ -124,18 +124,18 @@ read-local lines f n items fs l s p v same =
     )
     )
 
-pub for-starts : (m : Mark) (k : TokenKind) (f n : ℕ) (fs : List Frame) → BeginsSpec k
-    → step m k (ForOpen f n fs) ≡ step m k (Specifying (ForDeclaration (heading (Start f n fs) m false)) (expr.Specifier []))
+pub for-starts : (m : Mark) (k : TokenKind) (f n : ℕ) (fs : List PendingStmt) → BeginsSpec k
+    → shift m k (ForOpen f n fs) ≡ shift m k (Specifying (ForDeclaration (heading (ForScope f n fs) m false)) (expr.Specifier []))
 for-starts m (kind.Word w) f n fs h =
-    let s = Specifying (ForDeclaration (heading (Start f n fs) m false)) (expr.Specifier []) in
-    ap (λ b. cond b (step m (kind.Word w) s) (optional m (kind.Word w) (ForStart f n fs))) h
+    let s = Specifying (ForDeclaration (heading (ForScope f n fs) m false)) (expr.Specifier []) in
+    ap (λ b. cond b (shift m (kind.Word w) s) (optional m (kind.Word w) (ForStart f n fs))) h
 for-starts m _ f n fs h = absurd h
 
-for-local : (lines : ℕ → ℕ) (f n : ℕ) (fs : List Frame) (spec : SpecTree) (names : ObjTrees) (p : ℕ) → ValidSpec spec → ValidNames spec names
-    → Reads lines p (spell_spec spec ++ (spell_objs names ++ kind.Sign sign.Semi ∷ [])) (ForOpen f n fs) (p + length (spell_spec spec ++ (spell_objs names ++ kind.Sign sign.Semi ∷ [])))
+for-local : (lines : ℕ → ℕ) (f n : ℕ) (fs : List PendingStmt) (spec : SpecTree) (names : ObjTrees) (p : ℕ) → ValidSpec spec → ValidNames spec names
+    → RunsTo lines p (spell_spec spec ++ (spell_objs names ++ kind.Sign sign.Semi ∷ [])) (ForOpen f n fs) (p + length (spell_spec spec ++ (spell_objs names ++ kind.Sign sign.Semi ∷ [])))
     (Optional (ForTest f n (StartTree.Local (record { first = p; line = lines p; fixed = false; spec = place_spec lines p spec; names = place_objs lines (p + width_spec spec) names })) fs))
 for-local lines f n fs spec names p v w =
-    let h : Heading = record { owner = Start f n fs; first = p; line = lines p; fixed = false } in
+    let h : Heading = record { scope = ForScope f n fs; first = p; line = lines p; fixed = false } in
     let q = p + width_spec spec in
     counted (
     arrives (
@@ -149,8 +149,8 @@ for-local lines f n fs spec names p v w =
     )
 
 -- a declaration that stands first in a `for`
-pub read-for-local : (lines : ℕ → ℕ) (f n : ℕ) (fs : List Frame) (l : LocalTree) (p : ℕ) → l.fixed ≡ false → ValidLocal l
-    → Reads lines p (spell_local l) (ForOpen f n fs) (p + width_local l) (Optional (ForTest f n (StartTree.Local (place_local lines p l)) fs))
+pub read-for-local : (lines : ℕ → ℕ) (f n : ℕ) (fs : List PendingStmt) (l : LocalTree) (p : ℕ) → l.fixed ≡ false → ValidLocal l
+    → RunsTo lines p (spell_local l) (ForOpen f n fs) (p + width_local l) (Optional (ForTest f n (StartTree.Local (place_local lines p l)) fs))
 read-for-local lines f n fs l p e v =
     let r = for-local lines f n fs l.spec l.names p v.0 v.1 in
     let z : p ≡ p + 0 = omega arith in

@@ -11,14 +11,14 @@ use Rattle.ob_tree.specs.Valid.{ValidDims, ValidOpenDims, ValidInit, ValidInits,
 use Rattle.ob_tree.specs.ProgramValid.{ValidOption}
 use Rattle.ob_tree.specs.Places.{here, place, place_dims, place_init, place_inits, width, width_dims, width_init}
 use Rattle.ob_tree.specs.ProgramPlaces.{width_option, place_option}
-use Rattle.ob_tree.proofs.Machine as expr
+use Rattle.ob_tree.specs.ExprMachine as expr
 use Rattle.ob_tree.proofs.PlaceKeeps.{valid-place}
-use Rattle.ob_tree.proofs.Settled.{settled}
-use Rattle.ob_tree.proofs.SpecSteps.{append_dims, dims-end, dims-more}
-use Rattle.ob_tree.proofs.ProgramStates.{Head, OfName, OfParam, Target, Braces, Use, Statement, IfTest, WhileTest, DoTest, ForStart, ForTest, ForNext, Return, Length, Item, State, Dims, Optional, Reading, Init, AfterInit}
-use Rattle.ob_tree.proofs.ProgramParts.{at_semi, at_close, at_bracket, at_brace, add_init, has_items}
-use Rattle.ob_tree.proofs.ProgramMachine.{use_level, first_length, last_comma, used, optional_to, initialised, step}
-use Rattle.ob_tree.proofs.ProgramRuns.{Reads, nothing, token, ◌before◌, counted, respelled, arrives, restart, read-expr, Ends, expr-ends, StartsExpr, first-expr}
+use Rattle.ob_tree.proofs.Unreduced.{state_behind}
+use Rattle.ob_tree.proofs.SpecShifts.{append_dims, dims-end, dims-more}
+use Rattle.ob_tree.specs.ProgramStates.{Head, OfName, OfParam, InitDeclarator, InitList, ExprContext, Statement, IfTest, WhileTest, DoTest, ForStart, ForTest, ForNext, Return, Length, Item, State, Dims, Optional, Reading, Init, AfterInit}
+use Rattle.ob_tree.specs.ProgramParts.{at_semi, at_close, at_bracket, at_brace, add_init, has_items}
+use Rattle.ob_tree.specs.ProgramMachine.{context_level, first_length, last_comma, used, optional_to, initialised, shift}
+use Rattle.ob_tree.proofs.ProgramRuns.{RunsTo, nothing, token, ◌before◌, counted, respelled, arrives, restart, read-expr, Ends, expr-ends, StartsExpr, first-expr}
 
 -- Where an expression may be left out, the token that it begins with is none that may stand in its place.
 no-semi : (k : TokenKind) (s : State) → StartsExpr k → at_semi k s ≡ None
@@ -49,11 +49,11 @@ no-length : (k : TokenKind) (h : Head) (ds : DimTrees) → StartsExpr k → firs
 no-length k h DimTrees.NoDims s = no-bracket k (Dims h (DimTrees.Unsized DimTrees.NoDims)) s
 no-length k h ds s = refl
 
-no-comma : (k : TokenKind) (t : Target) (is : List Braces) → StartsExpr k → last_comma k t is ≡ None
+no-comma : (k : TokenKind) (t : InitDeclarator) (is : List InitList) → StartsExpr k → last_comma k t is ≡ None
 no-comma k t [] s = refl
 no-comma k t (b ∷ is) s = none-both (has_items b.items) _ (no-brace k _ s)
 
-none-used : (k : TokenKind) (u : Use) → StartsExpr k → used k u None ≡ None
+none-used : (k : TokenKind) (u : ExprContext) → StartsExpr k → used k u None ≡ None
 none-used k (Statement f n fs) s = no-semi k _ s
 none-used k (IfTest f n fs) s = refl
 none-used k (WhileTest f n fs) s = refl
@@ -65,7 +65,7 @@ none-used k (Return f n fs) s = no-semi k _ s
 none-used k (Length h ds) s = no-length k h ds s
 none-used k (Item t is) s = no-comma k t is s
 
-pub optional-starts : (u : Use) (m : Mark) (k : TokenKind) → StartsExpr k → step m k (Optional u) ≡ step m k (Reading u (expr.Operand []))
+pub optional-starts : (u : ExprContext) (m : Mark) (k : TokenKind) → StartsExpr k → shift m k (Optional u) ≡ shift m k (Reading u (expr.BeforeOperand []))
 optional-starts u m k s = ap (λ o. optional_to m k u o) (none-used k u s)
 
 -- an expression of the level, or none
@@ -77,27 +77,27 @@ pub any-level : (o : Option ExprTree) → ValidOption o → AtLevel 0 o
 any-level None v = tt
 any-level (Some e) v = (v, omega arith)
 
-abbrev pub after_option : Use → Option ExprTree → State
+abbrev pub after_option : ExprContext → Option ExprTree → State
 after_option u None = Optional u
-after_option u (Some e) = Reading u (settled e [])
+after_option u (Some e) = Reading u (state_behind e [])
 
-pub read-option : (lines : ℕ → ℕ) (u : Use) (o : Option ExprTree) (p : ℕ) → AtLevel (use_level u) o
-    → Reads lines p (spell_option o) (Optional u) (p + width_option o) (after_option u (place_option lines p o))
+pub read-option : (lines : ℕ → ℕ) (u : ExprContext) (o : Option ExprTree) (p : ℕ) → AtLevel (context_level u) o
+    → RunsTo lines p (spell_option o) (Optional u) (p + width_option o) (after_option u (place_option lines p o))
 read-option lines u None p v = counted nothing
-read-option lines u (Some e) p v = restart (Reading u (expr.Operand [])) StartsExpr (first-expr e v.0) (optional-starts u (here lines p)) (read-expr lines u e p v)
+read-option lines u (Some e) p v = restart (Reading u (expr.BeforeOperand [])) StartsExpr (first-expr e v.0) (optional-starts u (here lines p)) (read-expr lines u e p v)
 
-pub option-ends : (lines : ℕ → ℕ) (u : Use) (o : Option ExprTree) (p : ℕ) (m : Mark) (k : TokenKind) (t : State) → AtLevel (use_level u) o
-    → Ends (use_level u) k → used k u (place_option lines p o) ≡ Some t → step m k (after_option u (place_option lines p o)) ≡ Some t
+pub option-ends : (lines : ℕ → ℕ) (u : ExprContext) (o : Option ExprTree) (p : ℕ) (m : Mark) (k : TokenKind) (t : State) → AtLevel (context_level u) o
+    → Ends (context_level u) k → used k u (place_option lines p o) ≡ Some t → shift m k (after_option u (place_option lines p o)) ≡ Some t
 option-ends lines u None p m k t v h g = ap (λ o. optional_to m k u o) g
 option-ends lines u (Some e) p m k t v h g = expr-ends u m k (place lines p e) (valid-place lines p e v.0) h ∙ g
 
 -- Array brackets.
-pub open-bracket : (m : Mark) (h : Head) (ds : DimTrees) → step m (kind.Sign sign.OpenBracket) (Dims h ds) ≡ Some (Optional (Length h ds))
+pub open-bracket : (m : Mark) (h : Head) (ds : DimTrees) → shift m (kind.Sign sign.OpenBracket) (Dims h ds) ≡ Some (Optional (Length h ds))
 open-bracket m (OfName x) ds = refl
 open-bracket m (OfParam l f n s i name a) ds = refl
 
 pub read-dims : (lines : ℕ → ℕ) (h : Head) (ds done : DimTrees) (p : ℕ) → ValidDims ds
-    → Reads lines p (spell_dims ds) (Dims h done) (p + width_dims ds) (Dims h (append_dims done (place_dims lines p ds)))
+    → RunsTo lines p (spell_dims ds) (Dims h done) (p + width_dims ds) (Dims h (append_dims done (place_dims lines p ds)))
 read-dims lines h DimTrees.NoDims done p v = arrives (ap (λ ds. Dims h ds) (sym (dims-end done))) (counted nothing)
 read-dims lines h (DimTrees.Unsized ds) done p v = absurd v
 read-dims lines h (DimTrees.Sized e ds) done p v =
@@ -114,7 +114,7 @@ read-dims lines h (DimTrees.Sized e ds) done p v =
     )
 
 pub read-open-dims : (lines : ℕ → ℕ) (h : Head) (ds : DimTrees) (p : ℕ) → ValidOpenDims ds
-    → Reads lines p (spell_dims ds) (Dims h DimTrees.NoDims) (p + width_dims ds) (Dims h (place_dims lines p ds))
+    → RunsTo lines p (spell_dims ds) (Dims h DimTrees.NoDims) (p + width_dims ds) (Dims h (place_dims lines p ds))
 read-open-dims lines h DimTrees.NoDims p v = read-dims lines h DimTrees.NoDims DimTrees.NoDims p v
 read-open-dims lines h (DimTrees.Sized e ds) p v = read-dims lines h (DimTrees.Sized e ds) DimTrees.NoDims p v
 read-open-dims lines h (DimTrees.Unsized ds) p v =
@@ -141,35 +141,35 @@ pub added : (xs : InitTrees) (i : InitTree) → has_items (add_init xs i) ≡ tr
 added InitTrees.NoItems i = refl
 added (InitTrees.Item x xs) i = refl
 
-abbrev pub after_init : Target → List Braces → InitTree → State
-after_init t is (InitTree.Value e) = Reading (Item t is) (settled e [])
+abbrev pub after_init : InitDeclarator → List InitList → InitTree → State
+after_init t is (InitTree.Value e) = Reading (Item t is) (state_behind e [])
 after_init t is (InitTree.Braces f items comma) = AfterInit t is (InitTree.Braces f items comma)
 
-pub init-ends : (lines : ℕ → ℕ) (t : Target) (is : List Braces) (i : InitTree) (p : ℕ) (m : Mark) (k : TokenKind) → ValidInit i → Ends 1 k
-    → step m k (after_init t is (place_init lines p i)) ≡ initialised k t is (place_init lines p i)
+pub init-ends : (lines : ℕ → ℕ) (t : InitDeclarator) (is : List InitList) (i : InitTree) (p : ℕ) (m : Mark) (k : TokenKind) → ValidInit i → Ends 1 k
+    → shift m k (after_init t is (place_init lines p i)) ≡ initialised k t is (place_init lines p i)
 init-ends lines t is (InitTree.Value e) p m k v h = expr-ends (Item t is) m k (place lines p e) (valid-place lines p e v.0) h
 init-ends lines t is (InitTree.Braces f items comma) p m k v h = refl
 
-pub init-starts : (t : Target) (is : List Braces) (m : Mark) (k : TokenKind) → StartsExpr k → step m k (Init t is) ≡ step m k (Reading (Item t is) (expr.Operand []))
+pub init-starts : (t : InitDeclarator) (is : List InitList) (m : Mark) (k : TokenKind) → StartsExpr k → shift m k (Init t is) ≡ shift m k (Reading (Item t is) (expr.BeforeOperand []))
 init-starts t is m (kind.Sign sign.OpenBrace) s = absurd s
 init-starts t is m (kind.Sign x) s = optional-starts (Item t is) m (kind.Sign x) s
 init-starts t is m k s = optional-starts (Item t is) m k s
 
-pub comma-close : (m : Mark) (t : Target) (is : List Braces) (f : ℕ) (xs : InitTrees) (i : InitTree)
-    → step m (kind.Sign sign.CloseBrace) (Init t (record { first = f; items = add_init xs i } ∷ is)) ≡ Some (AfterInit t is (InitTree.Braces f (add_init xs i) true))
+pub comma-close : (m : Mark) (t : InitDeclarator) (is : List InitList) (f : ℕ) (xs : InitTrees) (i : InitTree)
+    → shift m (kind.Sign sign.CloseBrace) (Init t (record { first = f; items = add_init xs i } ∷ is)) ≡ Some (AfterInit t is (InitTree.Braces f (add_init xs i) true))
 comma-close m t is f xs i =
     let u = Item t (record { first = f; items = add_init xs i } ∷ is) in
     ap (λ b. optional_to m (kind.Sign sign.CloseBrace) u (cond b (Some (AfterInit t is (InitTree.Braces f (add_init xs i) true))) None)) (added xs i)
 
-module _ (lines : ℕ → ℕ) (t : Target) where
+module _ (lines : ℕ → ℕ) (t : InitDeclarator) where
   mutual
-    pub read-init : (i : InitTree) (is : List Braces) (p : ℕ) → ValidInit i
-        → Reads lines p (spell_init i) (Init t is) (p + width_init i) (after_init t is (place_init lines p i))
+    pub read-init : (i : InitTree) (is : List InitList) (p : ℕ) → ValidInit i
+        → RunsTo lines p (spell_init i) (Init t is) (p + width_init i) (after_init t is (place_init lines p i))
     read-init (InitTree.Value e) is p v =
-        restart (Reading (Item t is) (expr.Operand [])) StartsExpr (first-expr e v.0) (init-starts t is (here lines p)) (read-expr lines (Item t is) e p v)
+        restart (Reading (Item t is) (expr.BeforeOperand [])) StartsExpr (first-expr e v.0) (init-starts t is (here lines p)) (read-expr lines (Item t is) e p v)
     read-init (InitTree.Braces f InitTrees.NoItems comma) is p v = absurd v.0
     read-init (InitTree.Braces f (InitTrees.Item i xs) comma) is p v =
-        let b : Braces = record { first = p; items = InitTrees.NoItems } in
+        let b : InitList = record { first = p; items = InitTrees.NoItems } in
         counted (
         token (kind.Sign sign.OpenBrace) (p + 1) (Init t (b ∷ is)) refl refl
         before respelled (sym (append_assoc (spell_init i) (spell_more_inits xs) (spell_comma comma ++ kind.Sign sign.CloseBrace ∷ []))) (
@@ -179,9 +179,9 @@ module _ (lines : ℕ → ℕ) (t : Target) where
         )
 
     -- the initialisers behind one, and what closes the list
-    read-more-inits : (xs : InitTrees) (comma : Bool) (is : List Braces) (b : Braces) (i : InitTree) (p : ℕ) → ValidInits xs
-        → ((m : Mark) (k : TokenKind) → Ends 1 k → step m k (after_init t (b ∷ is) i) ≡ initialised k t (b ∷ is) i)
-        → Reads lines p (spell_more_inits xs ++ (spell_comma comma ++ kind.Sign sign.CloseBrace ∷ [])) (after_init t (b ∷ is) i)
+    read-more-inits : (xs : InitTrees) (comma : Bool) (is : List InitList) (b : InitList) (i : InitTree) (p : ℕ) → ValidInits xs
+        → ((m : Mark) (k : TokenKind) → Ends 1 k → shift m k (after_init t (b ∷ is) i) ≡ initialised k t (b ∷ is) i)
+        → RunsTo lines p (spell_more_inits xs ++ (spell_comma comma ++ kind.Sign sign.CloseBrace ∷ [])) (after_init t (b ∷ is) i)
         (p + length (spell_more_inits xs ++ (spell_comma comma ++ kind.Sign sign.CloseBrace ∷ [])))
         (AfterInit t is (InitTree.Braces b.first (append_inits b.items (InitTrees.Item i (place_inits lines (p + 1) xs))) comma))
     read-more-inits InitTrees.NoItems false is b i p v h =
@@ -189,7 +189,7 @@ module _ (lines : ℕ → ℕ) (t : Target) where
         token (kind.Sign sign.CloseBrace) (p + 1) (AfterInit t is (InitTree.Braces b.first (add_init b.items i) false)) (h (here lines p) (kind.Sign sign.CloseBrace) tt) refl
         )
     read-more-inits InitTrees.NoItems true is b i p v h =
-        let c : Braces = record { first = b.first; items = add_init b.items i } in
+        let c : InitList = record { first = b.first; items = add_init b.items i } in
         counted (
         arrives (ap (λ x. AfterInit t is (InitTree.Braces b.first x true)) (inits-add b.items i)) (
         token (kind.Sign sign.Comma) (p + 1) (Init t (c ∷ is)) (h (here lines p) (kind.Sign sign.Comma) (omega arith)) refl
@@ -197,7 +197,7 @@ module _ (lines : ℕ → ℕ) (t : Target) where
         )
         )
     read-more-inits (InitTrees.Item x xs) comma is b i p v h =
-        let c : Braces = record { first = b.first; items = add_init b.items i } in
+        let c : InitList = record { first = b.first; items = add_init b.items i } in
         let x' = place_init lines (p + 1) x in
         let rest = place_inits lines (p + 1 + width_init x + 1) xs in
         counted (

@@ -13,12 +13,12 @@ use Rattle.ob_tree.specs.Valid.{ValidDims}
 use Rattle.ob_tree.specs.ProgramValid.{ValidFile, ValidFiles, ValidParams, HasTag, DeclaresTag}
 use Rattle.ob_tree.specs.Places.{here, place_spec, place_dims, width_dims}
 use Rattle.ob_tree.specs.ProgramPlaces.{width_file, place_params, place_file, place_files}
-use Rattle.ob_tree.proofs.Machine as expr
+use Rattle.ob_tree.specs.ExprMachine as expr
 use Rattle.ob_tree.proofs.FirstTokens.{FirstOf, first-more}
-use Rattle.ob_tree.proofs.ProgramStates.{Owner, Outer, Inner, Start, Heading, Declaration, Declarator, OfName, Target, ForDeclaration, State, Specifying, Declare, Dims, Init, Params, Closed}
-use Rattle.ob_tree.proofs.ProgramParts.{add_name, is_tagged, has_lengths, declares_tag, bare}
-use Rattle.ob_tree.proofs.ProgramMachine.{next_name, end_declaration, parameters, step}
-use Rattle.ob_tree.proofs.ProgramRuns.{Reads, token, ◌before◌, counted, respelled, arrives, restart, Ends, all-stars}
+use Rattle.ob_tree.specs.ProgramStates.{Scope, FileScope, BlockScope, ForScope, Heading, Declaration, Declarator, OfName, InitDeclarator, ForDeclaration, State, Specifying, Declare, Dims, Init, Params, Closed}
+use Rattle.ob_tree.specs.ProgramParts.{add_name, is_tagged, has_lengths, declares_tag, bare}
+use Rattle.ob_tree.specs.ProgramMachine.{next_name, end_declaration, parameters, shift}
+use Rattle.ob_tree.proofs.ProgramRuns.{RunsTo, token, ◌before◌, counted, respelled, arrives, restart, Ends, all-stars}
 use Rattle.ob_tree.proofs.ProgramInits.{read-dims, read-open-dims, after_init, init-ends, read-init}
 use Rattle.ob_tree.proofs.ProgramParams.{read-params}
 
@@ -26,29 +26,29 @@ abbrev pub named : Declaration → ℕ → List ℕ → ℕ → Declarator
 named d n name a = record { declaration = d; stars = n; name = name; at = a }
 
 -- Functions are declared by external declarations alone.
-abbrev pub IsOuter : Owner → Type 0
-IsOuter (Outer items) = Unit {0}
-IsOuter (Inner f n items fs) = ⊥
-IsOuter (Start f n fs) = ⊥
+abbrev pub IsFileScope : Scope → Type 0
+IsFileScope (FileScope items) = Unit {0}
+IsFileScope (BlockScope f n items fs) = ⊥
+IsFileScope (ForScope f n fs) = ⊥
 
-abbrev pub MayDeclare : Owner → FileTree → Type 0
-MayDeclare o (FileTree.Function n name a ps) = IsOuter o
+abbrev pub MayDeclare : Scope → FileTree → Type 0
+MayDeclare o (FileTree.Function n name a ps) = IsFileScope o
 MayDeclare o (FileTree.Object x) = Unit {0}
 
-pub outer-parameters : (o : Owner) (x : Declarator) → IsOuter o → parameters o x ≡ Some (Params (record { function = x; params = [] }))
-outer-parameters (Outer items) x h = refl
-outer-parameters (Inner f n items fs) x h = absurd h
-outer-parameters (Start f n fs) x h = absurd h
+pub outer-parameters : (o : Scope) (x : Declarator) → IsFileScope o → parameters o x ≡ Some (Params (record { function = x; params = [] }))
+outer-parameters (FileScope items) x h = refl
+outer-parameters (BlockScope f n items fs) x h = absurd h
+outer-parameters (ForScope f n fs) x h = absurd h
 
 -- a function declarator up to its closing parenthesis
-pub read-function : (lines : ℕ → ℕ) (d : Declaration) (n : ℕ) (name : List ℕ) (ps : ParamsTree) (p : ℕ) → ValidParams ps → IsOuter d.heading.owner
-    → Reads lines p (spell_function n name ps) (Declare d 0) (p + length (spell_function n name ps)) (Closed (named d n name (p + n)) (place_params lines (p + n + 2) ps))
+pub read-function : (lines : ℕ → ℕ) (d : Declaration) (n : ℕ) (name : List ℕ) (ps : ParamsTree) (p : ℕ) → ValidParams ps → IsFileScope d.heading.scope
+    → RunsTo lines p (spell_function n name ps) (Declare d 0) (p + length (spell_function n name ps)) (Closed (named d n name (p + n)) (place_params lines (p + n + 2) ps))
 read-function lines d n name ps p v o =
     let x = named d n name (p + n) in
     counted (
     all-stars lines (Declare d) (λ m i. refl) n p
     before token (kind.Name name) (p + n + 1) (Dims (OfName x) DimTrees.NoDims) refl refl
-    before token (kind.Sign sign.OpenParen) (p + n + 2) (Params (record { function = x; params = [] })) (outer-parameters d.heading.owner x o) (omega arith)
+    before token (kind.Sign sign.OpenParen) (p + n + 2) (Params (record { function = x; params = [] })) (outer-parameters d.heading.scope x o) (omega arith)
     before read-params lines x ps (p + n + 2) v
     )
 
@@ -58,8 +58,8 @@ behind d (FileTree.Function n name a ps) = Closed (named d n name a) ps
 behind d (FileTree.Object (ObjTree.Bare n name a ds)) = Dims (OfName (named d n name a)) ds
 behind d (FileTree.Object (ObjTree.Initial n name a ds i)) = after_init (record { declarator = named d n name a; dims = ds }) [] i
 
-pub read-file : (lines : ℕ → ℕ) (d : Declaration) (x : FileTree) (p : ℕ) → ValidFile x → MayDeclare d.heading.owner x
-    → Reads lines p (spell_file x) (Declare d 0) (p + width_file x) (behind d (place_file lines p x))
+pub read-file : (lines : ℕ → ℕ) (d : Declaration) (x : FileTree) (p : ℕ) → ValidFile x → MayDeclare d.heading.scope x
+    → RunsTo lines p (spell_file x) (Declare d 0) (p + width_file x) (behind d (place_file lines p x))
 read-file lines d (FileTree.Function n name a ps) p v o = read-function lines d n name ps p v.1 o
 read-file lines d (FileTree.Object (ObjTree.Bare n name a ds)) p v o =
     let h = OfName (named d n name (p + n)) in
@@ -71,7 +71,7 @@ read-file lines d (FileTree.Object (ObjTree.Bare n name a ds)) p v o =
 read-file lines d (FileTree.Object (ObjTree.Initial n name a ds i)) p v o =
     let x = named d n name (p + n) in
     let ds' = place_dims lines (p + n + 1) ds in
-    let t : Target = record { declarator = x; dims = ds' } in
+    let t : InitDeclarator = record { declarator = x; dims = ds' } in
     counted (
     all-stars lines (Declare d) (λ m i. refl) n p
     before token (kind.Name name) (p + n + 1) (Dims (OfName x) DimTrees.NoDims) refl refl
@@ -97,24 +97,24 @@ lengths lines p (DimTrees.Unsized ds) v = absurd v
 lengths lines p (DimTrees.Sized e ds) v = refl
 
 bare-ends : (x : Declarator) (ds : DimTrees) (m : Mark) (k : TokenKind) → has_lengths ds ≡ true → EndsName k
-    → step m k (Dims (OfName x) ds) ≡ next_name k (add_name x.declaration (bare x ds))
+    → shift m k (Dims (OfName x) ds) ≡ next_name k (add_name x.declaration (bare x ds))
 bare-ends x ds m (kind.Sign sign.Comma) e h = ap (λ b. cond b (next_name (kind.Sign sign.Comma) (add_name x.declaration (bare x ds))) None) e
 bare-ends x ds m (kind.Sign sign.Semi) e h = ap (λ b. cond b (next_name (kind.Sign sign.Semi) (add_name x.declaration (bare x ds))) None) e
 bare-ends x ds m _ e h = absurd h
 
 closed-ends : (x : Declarator) (ps : ParamsTree) (m : Mark) (k : TokenKind) → EndsName k
-    → step m k (Closed x ps) ≡ next_name k (add_name x.declaration (FileTree.Function x.stars x.name x.at ps))
+    → shift m k (Closed x ps) ≡ next_name k (add_name x.declaration (FileTree.Function x.stars x.name x.at ps))
 closed-ends x ps m (kind.Sign sign.Comma) h = refl
 closed-ends x ps m (kind.Sign sign.Semi) h = refl
 closed-ends x ps m _ h = absurd h
 
 pub name-ends : (lines : ℕ → ℕ) (d : Declaration) (x : FileTree) (p : ℕ) (m : Mark) (k : TokenKind) → ValidFile x → EndsName k
-    → step m k (behind d (place_file lines p x)) ≡ next_name k (add_name d (place_file lines p x))
+    → shift m k (behind d (place_file lines p x)) ≡ next_name k (add_name d (place_file lines p x))
 name-ends lines d (FileTree.Function n name a ps) p m k v h = closed-ends (named d n name (p + n)) (place_params lines (p + n + 2) ps) m k h
 name-ends lines d (FileTree.Object (ObjTree.Bare n name a ds)) p m k v h =
     bare-ends (named d n name (p + n)) (place_dims lines (p + n + 1) ds) m k (lengths lines (p + n + 1) ds v.1) h
 name-ends lines d (FileTree.Object (ObjTree.Initial n name a ds i)) p m k v h =
-    let t : Target = record { declarator = named d n name (p + n); dims = place_dims lines (p + n + 1) ds } in
+    let t : InitDeclarator = record { declarator = named d n name (p + n); dims = place_dims lines (p + n + 1) ds } in
     init-ends lines t [] i (p + n + width_dims ds + 2) m k v.2 (init-end k h)
 
 -- the declaration with more declarators
@@ -123,8 +123,8 @@ with_names d xs = record { heading = d.heading; spec = d.spec; names = d.names +
 
 -- declarators up to the semicolon
 read-files : (lines : ℕ → ℕ) (x : FileTree) (xs : List FileTree) (d : Declaration) (p : ℕ)
-    → ValidFile x → AllByRecursion ValidFile xs → MayDeclare d.heading.owner x → AllByRecursion (MayDeclare d.heading.owner) xs
-    → Reads lines p (listed spell_file (x ∷ xs) ++ kind.Sign sign.Semi ∷ []) (Declare d 0) (p + length (listed spell_file (x ∷ xs) ++ kind.Sign sign.Semi ∷ []))
+    → ValidFile x → AllByRecursion ValidFile xs → MayDeclare d.heading.scope x → AllByRecursion (MayDeclare d.heading.scope) xs
+    → RunsTo lines p (listed spell_file (x ∷ xs) ++ kind.Sign sign.Semi ∷ []) (Declare d 0) (p + length (listed spell_file (x ∷ xs) ++ kind.Sign sign.Semi ∷ []))
     (end_declaration (with_names d (place_files lines p (x ∷ xs))))
 read-files lines x [] d p v vs o os =
     let x' = place_file lines p x in
@@ -163,7 +163,7 @@ file-first (FileTree.Object (ObjTree.Bare n name a ds)) = stars-first n name _
 file-first (FileTree.Object (ObjTree.Initial n name a ds i)) = stars-first n name _
 
 pub name-starts : (h : Heading) (s : SpecTree) (m : Mark) (k : TokenKind) → StartsName k
-    → step m k (Specifying (ForDeclaration h) (expr.AfterSpec s [])) ≡ step m k (Declare (record { heading = h; spec = s; names = [] }) 0)
+    → shift m k (Specifying (ForDeclaration h) (expr.AfterSpec s [])) ≡ shift m k (Declare (record { heading = h; spec = s; names = [] }) 0)
 name-starts h s m (kind.Sign sign.Star) f = refl
 name-starts h s m (kind.Name name) f = refl
 name-starts h s m _ f = absurd f
@@ -180,8 +180,8 @@ tag-declared lines p (SpecTree.Tag f tag) h = refl
 tag-declared lines p (SpecTree.Struct f tag ms) h = tagged tag h
 
 -- all declarators, none too, behind the specifier s that was placed at r
-pub read-names : (lines : ℕ → ℕ) (h : Heading) (s : SpecTree) (r : ℕ) (xs : List FileTree) (p : ℕ) → ValidFiles s xs → AllByRecursion (MayDeclare h.owner) xs
-    → Reads lines p (listed spell_file xs ++ kind.Sign sign.Semi ∷ []) (Specifying (ForDeclaration h) (expr.AfterSpec (place_spec lines r s) []))
+pub read-names : (lines : ℕ → ℕ) (h : Heading) (s : SpecTree) (r : ℕ) (xs : List FileTree) (p : ℕ) → ValidFiles s xs → AllByRecursion (MayDeclare h.scope) xs
+    → RunsTo lines p (listed spell_file xs ++ kind.Sign sign.Semi ∷ []) (Specifying (ForDeclaration h) (expr.AfterSpec (place_spec lines r s) []))
     (p + length (listed spell_file xs ++ kind.Sign sign.Semi ∷ []))
     (end_declaration (record { heading = h; spec = place_spec lines r s; names = place_files lines p xs }))
 read-names lines h s r [] p v o =

@@ -14,12 +14,12 @@ use Rattle.ob_tree.specs.Valid.{ValidOpenDims}
 use Rattle.ob_tree.specs.ProgramValid.{ValidParam, ValidParams, is_void_alone}
 use Rattle.ob_tree.specs.Places.{here, place_spec, place_dims, width_name, width_spec}
 use Rattle.ob_tree.specs.ProgramPlaces.{width_param, width_params, name_place, place_param, place_list, place_params}
-use Rattle.ob_tree.proofs.Machine as expr
+use Rattle.ob_tree.specs.ExprMachine as expr
 use Rattle.ob_tree.proofs.FirstTokens.{FirstOf, first-more, first-spec, BeginsSpec}
-use Rattle.ob_tree.proofs.ProgramStates.{Declarator, Listing, OfParam, ForParam, State, Specifying, Dims, Params, NextParam, Param, Closed}
-use Rattle.ob_tree.proofs.ProgramParts.{add_param, params_of}
-use Rattle.ob_tree.proofs.ProgramMachine.{next_param, step}
-use Rattle.ob_tree.proofs.ProgramRuns.{Reads, nothing, token, ◌before◌, counted, respelled, arrives, shifted, restart, read-spec, spec-ends, EndsSpec, all-stars}
+use Rattle.ob_tree.specs.ProgramStates.{Declarator, ParamList, OfParam, ForParam, State, Specifying, Dims, Params, NextParam, Param, Closed}
+use Rattle.ob_tree.specs.ProgramParts.{add_param, params_of}
+use Rattle.ob_tree.specs.ProgramMachine.{next_param, shift}
+use Rattle.ob_tree.proofs.ProgramRuns.{RunsTo, nothing, token, ◌before◌, counted, respelled, arrives, relocated, restart, read-spec, spec-ends, EndsSpec, all-stars}
 use Rattle.ob_tree.proofs.ProgramInits.{read-open-dims}
 
 -- A token that ends a parameter.
@@ -29,12 +29,12 @@ EndsParam (kind.Sign sign.CloseParen) = Unit {0}
 EndsParam k = ⊥
 
 -- The tokens lead to what is behind this parameter.
-pub record ReadsParam (lines : ℕ → ℕ) (p : ℕ) (tokens : List TokenKind) (s : State) (l : Listing) (x : ParamTree) : Type 0 where
+pub record ReadsParam (lines : ℕ → ℕ) (p : ℕ) (tokens : List TokenKind) (s : State) (l : ParamList) (x : ParamTree) : Type 0 where
   pub behind : State
-  pub reads : Reads lines p tokens s (p + length tokens) behind
-  pub ends : (m : Mark) (k : TokenKind) → EndsParam k → step m k behind ≡ next_param k (add_param l x)
+  pub reads : RunsTo lines p tokens s (p + length tokens) behind
+  pub ends : (m : Mark) (k : TokenKind) → EndsParam k → shift m k behind ≡ next_param k (add_param l x)
 
-same-param : {lines : ℕ → ℕ} {p : ℕ} {tokens : List TokenKind} {s : State} {l : Listing} {x y : ParamTree} → x ≡ y → ReadsParam lines p tokens s l x → ReadsParam lines p tokens s l y
+same-param : {lines : ℕ → ℕ} {p : ℕ} {tokens : List TokenKind} {s : State} {l : ParamList} {x y : ParamTree} → x ≡ y → ReadsParam lines p tokens s l x → ReadsParam lines p tokens s l y
 same-param {lines = lines} {p = p} {tokens = tokens} {s = s} {l = l} e r = subst (λ z. ReadsParam lines p tokens s l z) e r
 
 -- brackets begin
@@ -43,28 +43,28 @@ StartsDims (kind.Sign sign.OpenBracket) = Unit {0}
 StartsDims k = ⊥
 
 -- a parameter whose first token stands at f
-module _ (lines : ℕ → ℕ) (l : Listing) (f : ℕ) (s : SpecTree) where
+module _ (lines : ℕ → ℕ) (l : ParamList) (f : ℕ) (s : SpecTree) where
   abbrev made : ℕ → Option (List ℕ) → ℕ → DimTrees → ParamTree
   made i name a ds = record { first = f; line = lines f; spec = s; stars = i; name = name; at = a; dims = ds }
 
   pub dims-start : (i : ℕ) (m : Mark) (k : TokenKind) → StartsDims k
-      → step m k (Param l f (lines f) s i) ≡ step m k (Dims (OfParam l f (lines f) s i None f) DimTrees.NoDims)
+      → shift m k (Param l f (lines f) s i) ≡ shift m k (Dims (OfParam l f (lines f) s i None f) DimTrees.NoDims)
   dims-start i m (kind.Sign sign.OpenBracket) h = refl
   dims-start i m _ h = absurd h
 
   dims-end : (i : ℕ) (name : Option (List ℕ)) (a : ℕ) (ds : DimTrees) (m : Mark) (k : TokenKind) → EndsParam k
-      → step m k (Dims (OfParam l f (lines f) s i name a) ds) ≡ next_param k (add_param l (made i name a ds))
+      → shift m k (Dims (OfParam l f (lines f) s i name a) ds) ≡ next_param k (add_param l (made i name a ds))
   dims-end i name a ds m (kind.Sign sign.Comma) h = refl
   dims-end i name a ds m (kind.Sign sign.CloseParen) h = refl
   dims-end i name a ds m _ h = absurd h
 
-  stars-end : (i : ℕ) (m : Mark) (k : TokenKind) → EndsParam k → step m k (Param l f (lines f) s i) ≡ next_param k (add_param l (made i None f DimTrees.NoDims))
+  stars-end : (i : ℕ) (m : Mark) (k : TokenKind) → EndsParam k → shift m k (Param l f (lines f) s i) ≡ next_param k (add_param l (made i None f DimTrees.NoDims))
   stars-end i m (kind.Sign sign.Comma) h = refl
   stars-end i m (kind.Sign sign.CloseParen) h = refl
   stars-end i m _ h = absurd h
 
   spec-end : (m : Mark) (k : TokenKind) → EndsParam k
-      → step m k (Specifying (ForParam l f (lines f)) (expr.AfterSpec s [])) ≡ next_param k (add_param l (made 0 None f DimTrees.NoDims))
+      → shift m k (Specifying (ForParam l f (lines f)) (expr.AfterSpec s [])) ≡ next_param k (add_param l (made 0 None f DimTrees.NoDims))
   spec-end m (kind.Sign sign.Comma) h = refl
   spec-end m (kind.Sign sign.CloseParen) h = refl
   spec-end m _ h = absurd h
@@ -114,7 +114,7 @@ module _ (lines : ℕ → ℕ) (l : Listing) (f : ℕ) (s : SpecTree) where
       let r = read-named i name ds (b + i) q (omega (arith, e)) v in
       record {
         behind = r.behind;
-        reads = counted (shifted g (all-stars lines (Param l f (lines f) s) (λ m j. refl) i (f + b)) before r.reads);
+        reads = counted (relocated g (all-stars lines (Param l f (lines f) s) (λ m j. refl) i (f + b)) before r.reads);
         ends = r.ends;
       }
 
@@ -144,7 +144,7 @@ module _ (lines : ℕ → ℕ) (l : Listing) (f : ℕ) (s : SpecTree) where
   from-spec (suc i) name ds b q e v =
       behind-spec (suc i) name ds b q e v (record { token = kind.Sign sign.Star; rest = _; are = refl; fits = tt })
 
-pub read-param : (lines : ℕ → ℕ) (l : Listing) (x : ParamTree) (p : ℕ) → ValidParam x
+pub read-param : (lines : ℕ → ℕ) (l : ParamList) (x : ParamTree) (p : ℕ) → ValidParam x
     → ReadsParam lines p (spell_param x) (Specifying (ForParam l p (lines p)) (expr.Specifier [])) l (place_param lines p x)
 read-param lines l x p v =
     let b = width_spec x.spec in
@@ -156,10 +156,10 @@ read-param lines l x p v =
     }
 
 -- parameters up to the closing parenthesis, from a state that takes the first one's specifier
-read-list : (lines : ℕ → ℕ) (x : ParamTree) (xs : List ParamTree) (l : Listing) (s : State) (p : ℕ)
-    → ((k : TokenKind) → BeginsSpec k → step (here lines p) k s ≡ step (here lines p) k (Specifying (ForParam l p (lines p)) (expr.Specifier [])))
+read-list : (lines : ℕ → ℕ) (x : ParamTree) (xs : List ParamTree) (l : ParamList) (s : State) (p : ℕ)
+    → ((k : TokenKind) → BeginsSpec k → shift (here lines p) k s ≡ shift (here lines p) k (Specifying (ForParam l p (lines p)) (expr.Specifier [])))
     → ValidParam x → AllByRecursion ValidParam xs
-    → Reads lines p (listed spell_param (x ∷ xs) ++ kind.Sign sign.CloseParen ∷ []) s (p + length (listed spell_param (x ∷ xs) ++ kind.Sign sign.CloseParen ∷ []))
+    → RunsTo lines p (listed spell_param (x ∷ xs) ++ kind.Sign sign.CloseParen ∷ []) s (p + length (listed spell_param (x ∷ xs) ++ kind.Sign sign.CloseParen ∷ []))
     (Closed l.function (params_of (l.params ++ place_list lines p (x ∷ xs))))
 read-list lines x [] l s p same v w =
     let r = read-param lines l x p v in
@@ -198,30 +198,30 @@ void-placed lines p q (SpecTree.Integer f ws) i name ds = refl
 void-placed lines p q (SpecTree.Tag f tag) i name ds = refl
 void-placed lines p q (SpecTree.Struct f tag ms) i name ds = refl
 
-pub first-starts : (m : Mark) (l : Listing) (k : TokenKind) → BeginsSpec k → step m k (Params l) ≡ step m k (Specifying (ForParam l m.first m.line) (expr.Specifier []))
+pub first-starts : (m : Mark) (l : ParamList) (k : TokenKind) → BeginsSpec k → shift m k (Params l) ≡ shift m k (Specifying (ForParam l m.first m.line) (expr.Specifier []))
 first-starts m l (kind.Word w) h = refl
 first-starts m l _ h = absurd h
 
 pub read-params : (lines : ℕ → ℕ) (x : Declarator) (ps : ParamsTree) (p : ℕ) → ValidParams ps
-    → Reads lines p (spell_params ps ++ kind.Sign sign.CloseParen ∷ []) (Params (record { function = x; params = [] })) (p + width_params ps + 1) (Closed x (place_params lines p ps))
+    → RunsTo lines p (spell_params ps ++ kind.Sign sign.CloseParen ∷ []) (Params (record { function = x; params = [] })) (p + width_params ps + 1) (Closed x (place_params lines p ps))
 read-params lines x ParamsTree.Empty p v = token (kind.Sign sign.CloseParen) (p + 0 + 1) (Closed x ParamsTree.Empty) refl (omega arith)
 read-params lines x ParamsTree.Void p v =
-    let l : Listing = record { function = x; params = [] } in
+    let l : ParamList = record { function = x; params = [] } in
     token (kind.Word word.Void) (p + 1) (Specifying (ForParam l p (lines p)) (expr.AfterSpec (SpecTree.Void p) [])) refl refl
     before token (kind.Sign sign.CloseParen) (p + 1 + 1) (Closed x ParamsTree.Void) refl refl
 read-params lines x (ParamsTree.Listed []) p v = absurd v
 read-params lines x (ParamsTree.Listed (y ∷ [])) p v =
-    let l : Listing = record { function = x; params = [] } in
+    let l : ParamList = record { function = x; params = [] } in
     let n : p + length ((spell_param y ++ []) ++ kind.Sign sign.CloseParen ∷ []) ≡ p + length (spell_param y ++ []) + 1 =
     omega (arith, length-append (spell_param y ++ []) (kind.Sign sign.CloseParen ∷ [])) in
     let e : is_void_alone (place_spec lines p y.spec) y.stars y.name (place_dims lines (p + width_spec y.spec + y.stars + width_name y.name) y.dims) ≡ false =
     void-placed lines p (p + width_spec y.spec + y.stars + width_name y.name) y.spec y.stars y.name y.dims ∙ v.0 in
-    shifted n (
+    relocated n (
     arrives (ap (λ b. Closed x (cond b ParamsTree.Void (ParamsTree.Listed (place_param lines p y ∷ [])))) e)
     (read-list lines y [] l (Params l) p (first-starts (here lines p) l) v.1 tt)
     )
 read-params lines x (ParamsTree.Listed (y ∷ (z ∷ zs))) p v =
-    let l : Listing = record { function = x; params = [] } in
+    let l : ParamList = record { function = x; params = [] } in
     let n : p + length (listed spell_param (y ∷ (z ∷ zs)) ++ kind.Sign sign.CloseParen ∷ []) ≡ p + length (listed spell_param (y ∷ (z ∷ zs))) + 1 =
     omega (arith, length-append (listed spell_param (y ∷ (z ∷ zs))) (kind.Sign sign.CloseParen ∷ [])) in
-    shifted n (read-list lines y (z ∷ zs) l (Params l) p (first-starts (here lines p) l) v.0 (v.1, v.2))
+    relocated n (read-list lines y (z ∷ zs) l (Params l) p (first-starts (here lines p) l) v.0 (v.1, v.2))

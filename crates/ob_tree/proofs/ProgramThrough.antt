@@ -14,41 +14,41 @@ use Rattle.ob_tree.specs.Valid.{IsOf}
 use Rattle.ob_tree.specs.ProgramValid.{ValidStart, ValidStmt, ValidBlock, ends_in_if}
 use Rattle.ob_tree.specs.Places.{here, place, width}
 use Rattle.ob_tree.specs.ProgramPlaces.{width_option, width_local, width_start, width_stmt, place_option, place_local, place_start, place_stmt, place_block}
-use Rattle.ob_tree.proofs.Machine as expr
+use Rattle.ob_tree.specs.ExprMachine as expr
 use Rattle.ob_tree.proofs.PlaceKeeps.{valid-place}
-use Rattle.ob_tree.proofs.ProgramStates.{Frame, InBlock, InIf, InElse, InWhile, InDo, InFor, Inner, Use, Statement, IfTest, WhileTest, DoTest, ForStart, ForTest, ForNext, Return, State, Optional, Reading, Begin, Opening, ForWord, ForOpen, Semi, Done}
-use Rattle.ob_tree.proofs.ProgramParts.{add_statement, add_local}
-use Rattle.ob_tree.proofs.ProgramMachine.{use_level, used, begins_declaration, begin_declaration, statement, statement_word, block_item, to_else, reduce, after_whole, done, step}
-use Rattle.ob_tree.proofs.ProgramRuns.{Reads, token, ◌before◌, counted, respelled, arrives, shifted, restart, read-expr, expr-ends, StartsExpr, first-expr}
+use Rattle.ob_tree.specs.ProgramStates.{PendingStmt, InBlock, InIf, InElse, InWhile, InDo, InFor, BlockScope, ExprContext, Statement, IfTest, WhileTest, DoTest, ForStart, ForTest, ForNext, Return, State, Optional, Reading, Begin, Opening, ForWord, ForOpen, Semi, Done}
+use Rattle.ob_tree.specs.ProgramParts.{add_statement, add_local}
+use Rattle.ob_tree.specs.ProgramMachine.{context_level, used, begins_declaration, begin_declaration, statement, statement_word, block_item, to_else, reduce, after_whole, done, shift}
+use Rattle.ob_tree.proofs.ProgramRuns.{RunsTo, token, ◌before◌, counted, respelled, arrives, relocated, restart, read-expr, expr-ends, StartsExpr, first-expr}
 use Rattle.ob_tree.proofs.ProgramInits.{optional-starts, any-level, read-option, option-ends}
 use Rattle.ob_tree.proofs.ProgramDeclarations.{BeginsDeclaration, read-local, read-for-local}
 
--- The statement is the last part of what it stands in: the statements on its right side as frames, and the one at
+-- The statement is the last part of what it stands in: the statements on its right side as pending statements, and the one at
 -- their end.
-abbrev pub pend : StmtTree → List Frame → StmtTree × List Frame
-pend (StmtTree.If f n c s) fs = pend s (InIf f n c ∷ fs)
-pend (StmtTree.IfElse f n c s t) fs = pend t (InElse f n c s ∷ fs)
-pend (StmtTree.While f n c s) fs = pend s (InWhile f n c ∷ fs)
-pend (StmtTree.For f n start test next s) fs = pend s (InFor f n start test next ∷ fs)
-pend s fs = (s, fs)
+abbrev pub unreduced : StmtTree → List PendingStmt → StmtTree × List PendingStmt
+unreduced (StmtTree.If f n c s) fs = unreduced s (InIf f n c ∷ fs)
+unreduced (StmtTree.IfElse f n c s t) fs = unreduced t (InElse f n c s ∷ fs)
+unreduced (StmtTree.While f n c s) fs = unreduced s (InWhile f n c ∷ fs)
+unreduced (StmtTree.For f n start test next s) fs = unreduced s (InFor f n start test next ∷ fs)
+unreduced s fs = (s, fs)
 
 -- what is held behind a whole statement
-abbrev pub after_stmt : StmtTree → List Frame → State
-after_stmt s fs = Done (pend s fs).0 (pend s fs).1
+abbrev pub after_stmt : StmtTree → List PendingStmt → State
+after_stmt s fs = Done (unreduced s fs).0 (unreduced s fs).1
 
-reduce-pend : (s : StmtTree) (fs : List Frame) → reduce (pend s fs).0 (pend s fs).1 ≡ reduce s fs
-reduce-pend (StmtTree.If f n c s) fs = reduce-pend s (InIf f n c ∷ fs)
-reduce-pend (StmtTree.IfElse f n c s t) fs = reduce-pend t (InElse f n c s ∷ fs)
-reduce-pend (StmtTree.While f n c s) fs = reduce-pend s (InWhile f n c ∷ fs)
-reduce-pend (StmtTree.For f n start test next s) fs = reduce-pend s (InFor f n start test next ∷ fs)
-reduce-pend s fs = refl
+reduce-unreduced : (s : StmtTree) (fs : List PendingStmt) → reduce (unreduced s fs).0 (unreduced s fs).1 ≡ reduce s fs
+reduce-unreduced (StmtTree.If f n c s) fs = reduce-unreduced s (InIf f n c ∷ fs)
+reduce-unreduced (StmtTree.IfElse f n c s t) fs = reduce-unreduced t (InElse f n c s ∷ fs)
+reduce-unreduced (StmtTree.While f n c s) fs = reduce-unreduced s (InWhile f n c ∷ fs)
+reduce-unreduced (StmtTree.For f n start test next s) fs = reduce-unreduced s (InFor f n start test next ∷ fs)
+reduce-unreduced s fs = refl
 
-else-pend : (s : StmtTree) (fs : List Frame) → ends_in_if s ≡ false → to_else (pend s fs).0 (pend s fs).1 ≡ to_else s fs
-else-pend (StmtTree.If f n c s) fs h = let e : true ≡ false = h in cc
-else-pend (StmtTree.IfElse f n c s t) fs h = else-pend t (InElse f n c s ∷ fs) h
-else-pend (StmtTree.While f n c s) fs h = else-pend s (InWhile f n c ∷ fs) h
-else-pend (StmtTree.For f n start test next s) fs h = else-pend s (InFor f n start test next ∷ fs) h
-else-pend s fs h = refl
+else-unreduced : (s : StmtTree) (fs : List PendingStmt) → ends_in_if s ≡ false → to_else (unreduced s fs).0 (unreduced s fs).1 ≡ to_else s fs
+else-unreduced (StmtTree.If f n c s) fs h = let e : true ≡ false = h in cc
+else-unreduced (StmtTree.IfElse f n c s t) fs h = else-unreduced t (InElse f n c s ∷ fs) h
+else-unreduced (StmtTree.While f n c s) fs h = else-unreduced s (InWhile f n c ∷ fs) h
+else-unreduced (StmtTree.For f n start test next s) fs h = else-unreduced s (InFor f n start test next ∷ fs) h
+else-unreduced s fs h = refl
 
 ends-placed : (lines : ℕ → ℕ) (p : ℕ) (s : StmtTree) → ends_in_if (place_stmt lines p s) ≡ ends_in_if s
 ends-placed lines p (StmtTree.IfElse f n c s t) = ends-placed lines (p + width c + width_stmt s + 4) t
@@ -61,18 +61,18 @@ abbrev pub NotElse : TokenKind → Type 0
 NotElse (kind.Word word.Else) = ⊥
 NotElse k = Unit {0}
 
-not-else : (m : Mark) (k : TokenKind) (s : StmtTree) (fs : List Frame) → NotElse k → done m k s fs ≡ after_whole m k (reduce s fs).0 (reduce s fs).1
+not-else : (m : Mark) (k : TokenKind) (s : StmtTree) (fs : List PendingStmt) → NotElse k → done m k s fs ≡ after_whole m k (reduce s fs).0 (reduce s fs).1
 not-else m (kind.Word word.Else) s fs h = absurd h
 not-else m (kind.Word w) s fs h = refl
 not-else m k s fs h = refl
 
-pub stmt-ends : (m : Mark) (k : TokenKind) (s : StmtTree) (fs : List Frame) → NotElse k
-    → step m k (after_stmt s fs) ≡ after_whole m k (reduce s fs).0 (reduce s fs).1
-stmt-ends m k s fs h = not-else m k (pend s fs).0 (pend s fs).1 h ∙ ap (λ r. after_whole m k r.0 r.1) (reduce-pend s fs)
+pub stmt-ends : (m : Mark) (k : TokenKind) (s : StmtTree) (fs : List PendingStmt) → NotElse k
+    → shift m k (after_stmt s fs) ≡ after_whole m k (reduce s fs).0 (reduce s fs).1
+stmt-ends m k s fs h = not-else m k (unreduced s fs).0 (unreduced s fs).1 h ∙ ap (λ r. after_whole m k r.0 r.1) (reduce-unreduced s fs)
 
-pub else-follows : (lines : ℕ → ℕ) (p : ℕ) (m : Mark) (s : StmtTree) (f n : ℕ) (c : ExprTree) (fs : List Frame) → ends_in_if s ≡ false
-    → step m (kind.Word word.Else) (after_stmt (place_stmt lines p s) (InIf f n c ∷ fs)) ≡ Some (Begin (InElse f n c (place_stmt lines p s) ∷ fs))
-else-follows lines p m s f n c fs h = else-pend (place_stmt lines p s) (InIf f n c ∷ fs) (ends-placed lines p s ∙ h)
+pub else-follows : (lines : ℕ → ℕ) (p : ℕ) (m : Mark) (s : StmtTree) (f n : ℕ) (c : ExprTree) (fs : List PendingStmt) → ends_in_if s ≡ false
+    → shift m (kind.Word word.Else) (after_stmt (place_stmt lines p s) (InIf f n c ∷ fs)) ≡ Some (Begin (InElse f n c (place_stmt lines p s) ∷ fs))
+else-follows lines p m s f n c fs h = else-unreduced (place_stmt lines p s) (InIf f n c ∷ fs) (ends-placed lines p s ∙ h)
 
 -- What a statement begins with.
 abbrev StartsWord : Keyword → Type 0
@@ -93,8 +93,8 @@ expr-starts (kind.Sign sign.CloseBrace) h = absurd h
 expr-starts (kind.Sign s) h = tt
 expr-starts k h = tt
 
-pub expr-statement : (m : Mark) (k : TokenKind) (fs : List Frame) → StartsExpr k
-    → statement m k fs ≡ step m k (Reading (Statement m.first m.line fs) (expr.Operand []))
+pub expr-statement : (m : Mark) (k : TokenKind) (fs : List PendingStmt) → StartsExpr k
+    → statement m k fs ≡ shift m k (Reading (Statement m.first m.line fs) (expr.BeforeOperand []))
 expr-statement m (kind.Word word.Null) fs h = refl
 expr-statement m (kind.Word word.Eof) fs h = refl
 expr-statement m (kind.Word word.Sizeof) fs h = refl
@@ -103,31 +103,31 @@ expr-statement m (kind.Sign sign.OpenBrace) fs h = absurd h
 expr-statement m (kind.Sign s) fs h = optional-starts (Statement m.first m.line fs) m (kind.Sign s) h
 expr-statement m k fs h = optional-starts (Statement m.first m.line fs) m k h
 
-pub for-expr : (m : Mark) (k : TokenKind) (f n : ℕ) (fs : List Frame) → StartsExpr k
-    → step m k (ForOpen f n fs) ≡ step m k (Reading (ForStart f n fs) (expr.Operand []))
+pub for-expr : (m : Mark) (k : TokenKind) (f n : ℕ) (fs : List PendingStmt) → StartsExpr k
+    → shift m k (ForOpen f n fs) ≡ shift m k (Reading (ForStart f n fs) (expr.BeforeOperand []))
 for-expr m (kind.Word word.Null) f n fs h = refl
 for-expr m (kind.Word word.Eof) f n fs h = refl
 for-expr m (kind.Word word.Sizeof) f n fs h = refl
 for-expr m (kind.Word w) f n fs h = absurd h
 for-expr m k f n fs h = optional-starts (ForStart f n fs) m k h
 
-block-word : (m : Mark) (w : Keyword) (f n : ℕ) (items : BlockTrees) (fs : List Frame) → StartsWord w
+block-word : (m : Mark) (w : Keyword) (f n : ℕ) (items : BlockTrees) (fs : List PendingStmt) → StartsWord w
     → block_item m (kind.Word w) f n items fs ≡ statement m (kind.Word w) (InBlock f n items ∷ fs)
 block-word m word.Else f n items fs h = absurd h
 block-word m w f n items fs h =
-    ap (λ b. cond b (begin_declaration m (kind.Word w) (Inner f n items fs)) (statement_word m w (InBlock f n items ∷ fs))) h
+    ap (λ b. cond b (begin_declaration m (kind.Word w) (BlockScope f n items fs)) (statement_word m w (InBlock f n items ∷ fs))) h
 
-pub block-statement : (m : Mark) (k : TokenKind) (f n : ℕ) (items : BlockTrees) (fs : List Frame) → StartsStmt k
+pub block-statement : (m : Mark) (k : TokenKind) (f n : ℕ) (items : BlockTrees) (fs : List PendingStmt) → StartsStmt k
     → block_item m k f n items fs ≡ statement m k (InBlock f n items ∷ fs)
 block-statement m (kind.Word w) f n items fs h = block-word m w f n items fs h
 block-statement m (kind.Sign sign.CloseBrace) f n items fs h = absurd h
 block-statement m (kind.Sign s) f n items fs h = refl
 block-statement m k f n items fs h = refl
 
-pub block-declaration : (m : Mark) (k : TokenKind) (f n : ℕ) (items : BlockTrees) (fs : List Frame) → BeginsDeclaration k
-    → block_item m k f n items fs ≡ begin_declaration m k (Inner f n items fs)
+pub block-declaration : (m : Mark) (k : TokenKind) (f n : ℕ) (items : BlockTrees) (fs : List PendingStmt) → BeginsDeclaration k
+    → block_item m k f n items fs ≡ begin_declaration m k (BlockScope f n items fs)
 block-declaration m (kind.Word w) f n items fs h =
-    ap (λ b. cond b (begin_declaration m (kind.Word w) (Inner f n items fs)) (statement_word m w (InBlock f n items ∷ fs))) h
+    ap (λ b. cond b (begin_declaration m (kind.Word w) (BlockScope f n items fs)) (statement_word m w (InBlock f n items ∷ fs))) h
 block-declaration m _ f n items fs h = absurd h
 
 pub declares-not-else : (k : TokenKind) → BeginsDeclaration k → NotElse k
@@ -163,35 +163,35 @@ block-stmt (BlockTrees.Statement x xs) s ys = ap (BlockTrees.Statement x) (block
 
 module _ (lines : ℕ → ℕ) where
   -- a test in its parentheses, and what follows it
-  pub read-test : {q : ℕ} {ys : List TokenKind} {r : State} → (u : Use) (c : ExprTree) (p a b : ℕ) (t : State) → IsOf (use_level u) c
-      → used (kind.Sign sign.CloseParen) u (Some (place lines a c)) ≡ Some t → a ≡ p + 1 → b ≡ a + width c + 1 → Reads lines b ys t q r
-      → Reads lines p (kind.Sign sign.OpenParen ∷ (spell c ++ kind.Sign sign.CloseParen ∷ ys)) (Opening u) q r
+  pub read-test : {q : ℕ} {ys : List TokenKind} {r : State} → (u : ExprContext) (c : ExprTree) (p a b : ℕ) (t : State) → IsOf (context_level u) c
+      → used (kind.Sign sign.CloseParen) u (Some (place lines a c)) ≡ Some t → a ≡ p + 1 → b ≡ a + width c + 1 → RunsTo lines b ys t q r
+      → RunsTo lines p (kind.Sign sign.OpenParen ∷ (spell c ++ kind.Sign sign.CloseParen ∷ ys)) (Opening u) q r
   read-test u c p a b t v e h g rest =
-      token (kind.Sign sign.OpenParen) a (Reading u (expr.Operand [])) refl h
+      token (kind.Sign sign.OpenParen) a (Reading u (expr.BeforeOperand [])) refl h
       before read-expr lines u c a v
       before token (kind.Sign sign.CloseParen) b t (expr-ends u (here lines (a + width c)) (kind.Sign sign.CloseParen) (place lines a c) (valid-place lines a c v.0) tt ∙ e) g
       before rest
 
   -- the first part of a `for`, with its semicolon
-  pub read-start : (start : StartTree) (f n : ℕ) (fs : List Frame) (p q : ℕ) → ValidStart start → q ≡ p + width_start start
-      → Reads lines p (spell_start start) (ForOpen f n fs) q (Optional (ForTest f n (place_start lines p start) fs))
+  pub read-start : (start : StartTree) (f n : ℕ) (fs : List PendingStmt) (p q : ℕ) → ValidStart start → q ≡ p + width_start start
+      → RunsTo lines p (spell_start start) (ForOpen f n fs) q (Optional (ForTest f n (place_start lines p start) fs))
   read-start (StartTree.Expr None) f n fs p q v h = token (kind.Sign sign.Semi) q (Optional (ForTest f n (StartTree.Expr None) fs)) refl h
   read-start (StartTree.Expr (Some e)) f n fs p q v h =
       let u = ForStart f n fs in
-      shifted (sym h) (
+      relocated (sym h) (
       counted (
-      restart (Reading u (expr.Operand [])) StartsExpr (first-expr e v) (λ k s. for-expr (here lines p) k f n fs s) (read-expr lines u e p (v, omega arith))
+      restart (Reading u (expr.BeforeOperand [])) StartsExpr (first-expr e v) (λ k s. for-expr (here lines p) k f n fs s) (read-expr lines u e p (v, omega arith))
       before token (kind.Sign sign.Semi) (p + width e + 1) (Optional (ForTest f n (StartTree.Expr (Some (place lines p e))) fs))
       (expr-ends u (here lines (p + width e)) (kind.Sign sign.Semi) (place lines p e) (valid-place lines p e v) tt) refl
       )
       )
-  read-start (StartTree.Local l) f n fs p q v h = shifted (sym h) (read-for-local lines f n fs l p v.0 v.1)
+  read-start (StartTree.Local l) f n fs p q v h = relocated (sym h) (read-for-local lines f n fs l p v.0 v.1)
 
   mutual
     -- a statement, from a state that begins one
-    pub read-stmt : (s : StmtTree) (fs : List Frame) (st : State) (p : ℕ) → ValidStmt s
-        → ((k : TokenKind) → StartsStmt k → step (here lines p) k st ≡ statement (here lines p) k fs)
-        → Reads lines p (spell_stmt s) st (p + width_stmt s) (after_stmt (place_stmt lines p s) fs)
+    pub read-stmt : (s : StmtTree) (fs : List PendingStmt) (st : State) (p : ℕ) → ValidStmt s
+        → ((k : TokenKind) → StartsStmt k → shift (here lines p) k st ≡ statement (here lines p) k fs)
+        → RunsTo lines p (spell_stmt s) st (p + width_stmt s) (after_stmt (place_stmt lines p s) fs)
     read-stmt (StmtTree.Block f n items) fs st p v same =
         counted (
         token (kind.Sign sign.OpenBrace) (p + 1) (Begin (InBlock p (lines p) BlockTrees.NoItems ∷ fs)) (same (kind.Sign sign.OpenBrace) tt) refl
@@ -202,7 +202,7 @@ module _ (lines : ℕ → ℕ) where
     read-stmt (StmtTree.Expr f n (Some e)) fs st p v same =
         let u = Statement p (lines p) fs in
         counted (
-        restart (Reading u (expr.Operand [])) StartsExpr (first-expr e v) (λ k s. same k (expr-starts k s) ∙ expr-statement (here lines p) k fs s)
+        restart (Reading u (expr.BeforeOperand [])) StartsExpr (first-expr e v) (λ k s. same k (expr-starts k s) ∙ expr-statement (here lines p) k fs s)
         (read-expr lines u e p (v, omega arith))
         before token (kind.Sign sign.Semi) (p + width e + 1) (Done (StmtTree.Expr p (lines p) (Some (place lines p e))) fs)
         (expr-ends u (here lines (p + width e)) (kind.Sign sign.Semi) (place lines p e) (valid-place lines p e v) tt) refl
@@ -289,9 +289,9 @@ module _ (lines : ℕ → ℕ) where
         )
 
     -- what is left of a block, and its closing brace, from a state that begins a block item
-    pub read-block : (items : BlockTrees) (f n : ℕ) (before_them : BlockTrees) (fs : List Frame) (st : State) (p : ℕ) → ValidBlock items
-        → ((k : TokenKind) → NotElse k → step (here lines p) k st ≡ block_item (here lines p) k f n before_them fs)
-        → Reads lines p (spell_block items ++ kind.Sign sign.CloseBrace ∷ []) st (p + length (spell_block items ++ kind.Sign sign.CloseBrace ∷ []))
+    pub read-block : (items : BlockTrees) (f n : ℕ) (before_them : BlockTrees) (fs : List PendingStmt) (st : State) (p : ℕ) → ValidBlock items
+        → ((k : TokenKind) → NotElse k → shift (here lines p) k st ≡ block_item (here lines p) k f n before_them fs)
+        → RunsTo lines p (spell_block items ++ kind.Sign sign.CloseBrace ∷ []) st (p + length (spell_block items ++ kind.Sign sign.CloseBrace ∷ []))
         (Done (StmtTree.Block f n (append_block before_them (place_block lines p items))) fs)
     read-block BlockTrees.NoItems f n xs fs st p v same =
         token (kind.Sign sign.CloseBrace) (p + 1) (Done (StmtTree.Block f n (append_block xs BlockTrees.NoItems)) fs)

@@ -25,4 +25,10 @@ pub mod ProgramValid
 pub mod ProgramPlaces
 pub mod ProgramPaths
 pub mod ProgramFronts
-pub mod Answers
+pub mod Verdicts
+pub mod ExprStates
+pub mod ExprMachine
+pub mod ProgramStates
+pub mod ProgramParts
+pub mod ProgramMachine
+pub mod Readings

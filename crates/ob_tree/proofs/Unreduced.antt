@@ -8,7 +8,7 @@ use Rattle.ob_tree.specs.declared.tokens.Sign.TheVariants as sign
 use Rattle.ob_tree.specs.Trees.{Infix, ExprTree}
 use Rattle.ob_tree.specs.Levels.{binary_level, IsInfix, infix_level, right_level, level_of}
 use Rattle.ob_tree.specs.Valid.{Valid, IsOf}
-use Rattle.ob_tree.proofs.Frames.{Frame, InParen, InIndex, InCall, InStep, InUnary, InSize, InCast, InJoin, InThen, InElse, InLength, InType, InStruct, State, After, hole, grip, top_hole, close, reduce}
+use Rattle.ob_tree.specs.ExprStates.{PendingNode, InParen, InIndex, InCall, InStep, InUnary, InSize, InCast, InJoin, InThen, InElse, InLength, InType, InStruct, State, AfterOperand, operand_level, right_precedence, top_operand_level, top_right_precedence, close, reduce}
 
 pub lt-yes : (a b : ℕ) → a < b → nat_lt a b ≡ true
 lt-yes a b h = grind (arith, nat_tests)
@@ -19,22 +19,22 @@ lt-no a b h = grind (arith, nat_tests)
 pub le-yes : (a b : ℕ) → a ≤ b → nat_le a b ≡ true
 le-yes a b h = grind (arith, nat_tests)
 
--- The tree is the last operand of what it waits in: the nodes on its right side as frames, and the operand at
+-- The tree is the last operand of what it waits in: the nodes on its right side as pending nodes, and the operand at
 -- their end.
-abbrev pub pend : ExprTree → List Frame → ExprTree × List Frame
-pend (ExprTree.Step m false down e) fs = pend e (InStep m down ∷ fs)
-pend (ExprTree.Unary m s e) fs = pend e (InUnary m s ∷ fs)
-pend (ExprTree.SizeExpr m e) fs = pend e (InSize m ∷ fs)
-pend (ExprTree.Cast m t e) fs = pend e (InCast m t ∷ fs)
-pend (ExprTree.Cond m c x y) fs = pend y (InElse m c x ∷ fs)
-pend (ExprTree.Join m op l r) fs = pend r (InJoin m op l ∷ fs)
-pend t fs = (t, fs)
+abbrev pub unreduced : ExprTree → List PendingNode → ExprTree × List PendingNode
+unreduced (ExprTree.Step m false down e) fs = unreduced e (InStep m down ∷ fs)
+unreduced (ExprTree.Unary m s e) fs = unreduced e (InUnary m s ∷ fs)
+unreduced (ExprTree.SizeExpr m e) fs = unreduced e (InSize m ∷ fs)
+unreduced (ExprTree.Cast m t e) fs = unreduced e (InCast m t ∷ fs)
+unreduced (ExprTree.Cond m c x y) fs = unreduced y (InElse m c x ∷ fs)
+unreduced (ExprTree.Join m op l r) fs = unreduced r (InJoin m op l ∷ fs)
+unreduced t fs = (t, fs)
 
 -- what the machine holds behind a whole tree
-abbrev pub settled : ExprTree → List Frame → State
-settled t fs = After (pend t fs).0 (pend t fs).1
+abbrev pub state_behind : ExprTree → List PendingNode → State
+state_behind t fs = AfterOperand (unreduced t fs).0 (unreduced t fs).1
 
--- n closes each frame on the right side
+-- n closes each pending node on the right side
 abbrev pub Closes : ℕ → ExprTree → Type 0
 Closes n (ExprTree.Step m false down e) = (n < 14) × Closes n e
 Closes n (ExprTree.Unary m s e) = (n < 13) × Closes n e
@@ -44,47 +44,43 @@ Closes n (ExprTree.Cond m c x y) = (n < 2) × Closes n y
 Closes n (ExprTree.Join m op l r) = (n < right_level op) × Closes n r
 Closes n t = Unit {0}
 
-close-one : (n : ℕ) (e : ExprTree) (f : Frame) (fs : List Frame) → n < grip f → reduce n e (f ∷ fs) ≡ reduce n (close f e) fs
-close-one n e f fs h = rw (lt-yes n (grip f) h) refl
+close-one : (n : ℕ) (e : ExprTree) (f : PendingNode) (fs : List PendingNode) → n < right_precedence f → reduce n e (f ∷ fs) ≡ reduce n (close f e) fs
+close-one n e f fs h = rw (lt-yes n (right_precedence f) h) refl
 
-reduce-pend : (n : ℕ) (t : ExprTree) (fs : List Frame) → Closes n t → reduce n (pend t fs).0 (pend t fs).1 ≡ reduce n t fs
-reduce-pend n (ExprTree.Step m false down e) fs c = reduce-pend n e (InStep m down ∷ fs) c.1 ∙ close-one n e (InStep m down) fs c.0
-reduce-pend n (ExprTree.Unary m s e) fs c = reduce-pend n e (InUnary m s ∷ fs) c.1 ∙ close-one n e (InUnary m s) fs c.0
-reduce-pend n (ExprTree.SizeExpr m e) fs c = reduce-pend n e (InSize m ∷ fs) c.1 ∙ close-one n e (InSize m) fs c.0
-reduce-pend n (ExprTree.Cast m t e) fs c = reduce-pend n e (InCast m t ∷ fs) c.1 ∙ close-one n e (InCast m t) fs c.0
-reduce-pend n (ExprTree.Cond m x y z) fs c = reduce-pend n z (InElse m x y ∷ fs) c.1 ∙ close-one n z (InElse m x y) fs c.0
-reduce-pend n (ExprTree.Join m op l r) fs c = reduce-pend n r (InJoin m op l ∷ fs) c.1 ∙ close-one n r (InJoin m op l) fs c.0
-reduce-pend n t fs c = refl
+reduce-unreduced : (n : ℕ) (t : ExprTree) (fs : List PendingNode) → Closes n t → reduce n (unreduced t fs).0 (unreduced t fs).1 ≡ reduce n t fs
+reduce-unreduced n (ExprTree.Step m false down e) fs c = reduce-unreduced n e (InStep m down ∷ fs) c.1 ∙ close-one n e (InStep m down) fs c.0
+reduce-unreduced n (ExprTree.Unary m s e) fs c = reduce-unreduced n e (InUnary m s ∷ fs) c.1 ∙ close-one n e (InUnary m s) fs c.0
+reduce-unreduced n (ExprTree.SizeExpr m e) fs c = reduce-unreduced n e (InSize m ∷ fs) c.1 ∙ close-one n e (InSize m) fs c.0
+reduce-unreduced n (ExprTree.Cast m t e) fs c = reduce-unreduced n e (InCast m t ∷ fs) c.1 ∙ close-one n e (InCast m t) fs c.0
+reduce-unreduced n (ExprTree.Cond m x y z) fs c = reduce-unreduced n z (InElse m x y ∷ fs) c.1 ∙ close-one n z (InElse m x y) fs c.0
+reduce-unreduced n (ExprTree.Join m op l r) fs c = reduce-unreduced n r (InJoin m op l ∷ fs) c.1 ∙ close-one n r (InJoin m op l) fs c.0
+reduce-unreduced n t fs c = refl
 
-abbrev pub top_grip : List Frame → ℕ
-top_grip [] = 0
-top_grip (f ∷ fs) = grip f
-
--- n stops at a frame of a grip of at most n
-pub reduce-stop : (n : ℕ) (t : ExprTree) (fs : List Frame) → top_grip fs ≤ n → reduce n t fs ≡ (t, fs)
+-- n stops at a pending node of a right_precedence of at most n
+pub reduce-stop : (n : ℕ) (t : ExprTree) (fs : List PendingNode) → top_right_precedence fs ≤ n → reduce n t fs ≡ (t, fs)
 reduce-stop n t [] h = refl
-reduce-stop n t (f ∷ fs) h = rw (lt-no n (grip f) h) refl
+reduce-stop n t (f ∷ fs) h = rw (lt-no n (right_precedence f) h) refl
 
-grip-hole : (f : Frame) → grip f ≤ hole f
-grip-hole (InParen m) = omega arith
-grip-hole (InIndex m b) = omega arith
-grip-hole (InCall m name es) = omega arith
-grip-hole (InStep m down) = omega arith
-grip-hole (InUnary m s) = omega arith
-grip-hole (InSize m) = omega arith
-grip-hole (InCast m t) = omega arith
-grip-hole (InJoin m op l) = omega arith
-grip-hole (InThen m c) = omega arith
-grip-hole (InElse m c x) = omega arith
-grip-hole (InLength h ds) = omega arith
-grip-hole (InType m z) = omega arith
-grip-hole (InStruct b) = omega arith
+precedence-level : (f : PendingNode) → right_precedence f ≤ operand_level f
+precedence-level (InParen m) = omega arith
+precedence-level (InIndex m b) = omega arith
+precedence-level (InCall m name es) = omega arith
+precedence-level (InStep m down) = omega arith
+precedence-level (InUnary m s) = omega arith
+precedence-level (InSize m) = omega arith
+precedence-level (InCast m t) = omega arith
+precedence-level (InJoin m op l) = omega arith
+precedence-level (InThen m c) = omega arith
+precedence-level (InElse m c x) = omega arith
+precedence-level (InLength h ds) = omega arith
+precedence-level (InType m z) = omega arith
+precedence-level (InStruct b) = omega arith
 
-pub top-grip : (least : ℕ) (fs : List Frame) → top_grip fs ≤ top_hole least fs
-top-grip least [] = omega arith
-top-grip least (f ∷ fs) = grip-hole f
+pub top-precedence : (least : ℕ) (fs : List PendingNode) → top_right_precedence fs ≤ top_operand_level least fs
+top-precedence least [] = omega arith
+top-precedence least (f ∷ fs) = precedence-level f
 
--- n closes the frames of all nodes of the nonterminals from m on
+-- n closes the pending nodes of all nodes of the nonterminals from m on
 pub record Binds (n m : ℕ) : Type 0 where
   pub near : m ≤ n + 1
   pub infixes : (op : Infix) → IsInfix op → m ≤ infix_level op → n < right_level op
@@ -122,9 +118,9 @@ binds-closes n m (ExprTree.Join k op l r) b v h =
     let c : n < right_level op = b.infixes op v.0 h in (c, binds-closes n m r b v.3 (omega (arith, b.near, v.4)))
 
 -- where n binds the tree, n reduces what it is read into to the tree
-pub reduce-settled : (n m : ℕ) (t : ExprTree) (fs : List Frame) → Binds n m → IsOf m t → top_grip fs ≤ n
-    → reduce n (pend t fs).0 (pend t fs).1 ≡ (t, fs)
-reduce-settled n m t fs b v h = reduce-pend n t fs (binds-closes n m t b v.0 v.1) ∙ reduce-stop n t fs h
+pub reduce-behind : (n m : ℕ) (t : ExprTree) (fs : List PendingNode) → Binds n m → IsOf m t → top_right_precedence fs ≤ n
+    → reduce n (unreduced t fs).0 (unreduced t fs).1 ≡ (t, fs)
+reduce-behind n m t fs b v h = reduce-unreduced n t fs (binds-closes n m t b v.0 v.1) ∙ reduce-stop n t fs h
 
 -- the levels of binary operators
 pub binary-most : (s : Sign) → binary_level s ≤ 12

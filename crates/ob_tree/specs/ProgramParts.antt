@@ -7,7 +7,7 @@ use Rattle.ob_tree.specs.declared.tokens.Sign.TheVariants as sign
 use Rattle.ob_tree.specs.Trees.{SpecTree, ObjTree, ObjTrees, DimTrees, InitTree, InitTrees}
 use Rattle.ob_tree.specs.Programs.{LocalTree, StmtTree, BlockTrees, ParamTree, ParamsTree, FileTree, ItemTree}
 use Rattle.ob_tree.specs.ProgramValid.{is_void_alone}
-use Rattle.ob_tree.proofs.ProgramStates.{Declaration, Declarator, Listing, Target, State}
+use Rattle.ob_tree.specs.ProgramStates.{Declaration, Declarator, ParamList, InitDeclarator, State}
 
 -- The state behind a token that has to be this one.
 abbrev pub at_semi : TokenKind → State → Option State
@@ -52,7 +52,7 @@ add_init (InitTrees.Item x is) i = InitTrees.Item x (add_init is i)
 abbrev pub add_name : Declaration → FileTree → Declaration
 add_name d x = record { heading = d.heading; spec = d.spec; names = d.names ++ x ∷ [] }
 
-abbrev pub add_param : Listing → ParamTree → Listing
+abbrev pub add_param : ParamList → ParamTree → ParamList
 add_param l x = record { function = l.function; params = l.params ++ x ∷ [] }
 
 -- Tests on what was read.
@@ -113,7 +113,7 @@ item_of d = ItemTree.Decls d.heading.first d.heading.line d.heading.fixed d.spec
 abbrev pub bare : Declarator → DimTrees → FileTree
 bare x ds = FileTree.Object (ObjTree.Bare x.stars x.name x.at ds)
 
-abbrev pub initial : Target → InitTree → FileTree
+abbrev pub initial : InitDeclarator → InitTree → FileTree
 initial t i = FileTree.Object (ObjTree.Initial t.declarator.stars t.declarator.name t.declarator.at t.dims i)
 
 abbrev pub function : Declarator → ParamsTree → FileTree

@@ -1,4 +1,4 @@
--- A machine that goes on exactly as long as some tree begins with what it has read gives the right answer.
+-- A machine with the correct-prefix property gives the right verdict.
 use Rattle.std.proofs.Common.{◌≡◌, ℕ, zero, suc, ◌+◌, ◌-◌, ◌<◌, ◌≤◌, ◌⊎◌, inl, inr, List, [], ◌∷◌, ◌++◌, length, take, drop, map, Bool, true, false, Option, Some, None, cond, refl, sym, ◌∙◌, ap, subst, arith, length-drop, length-take-le}
 use Rattle.std.specs.Prelude.{nat_le}
 use Rattle.std.specs.List.{All}
@@ -9,45 +9,9 @@ use Rattle.std.proofs.lemmas.List.Elements.{All-take, All-drop, All-map}
 use Rattle.ob_tree.specs.declared.tokens.Token.{Token}
 use Rattle.ob_tree.specs.declared.tokens.TokenKind.{TokenKind}
 use Rattle.ob_tree.specs.Valid.{IsOfSource}
-use Rattle.ob_tree.specs.Fronts.{kinds, within, any, FrontOf}
-use Rattle.ob_tree.specs.Answers.{IsLeastWithout, Stops, Verdict, Whole, NoTree, TooDeep, IsVerdict}
-
--- what reading as far as possible leaves: what is held at the place where it stops, or the place where it gets
--- too deep
-pub data Reading (S : Type 0) : Type 0 where
-  Reached : (at : ℕ) → (state : S) → Reading S
-  Deep : (at : ℕ) → Reading S
-
--- what one more token leads to
-abbrev pub turn : {S : Type 0} → (load : S → ℕ) (depth p : ℕ) → S → (S → Reading S) → Option S → Reading S
-turn load depth p s go None = Reached p s
-turn load depth p s go (Some t) = cond (nat_le (depth + load t) 256) (go t) (Deep p)
-
--- reading tokens of these kinds as far as possible, the first at place p, where `depth` nodes stand above them
-abbrev pub read : {S : Type 0} → (step : ℕ → TokenKind → S → Option S) (load : S → ℕ) (depth p : ℕ) → List TokenKind → S → Reading S
-read step load depth p [] s = Reached p s
-read step load depth p (k ∷ ks) s = turn load depth p s (λ t. read step load depth (p + 1) ks t) (step p k s)
-
--- the answer after that
-abbrev pub found : {T : Type 0} → ℕ → Option T → Verdict T
-found i None = NoTree i
-found i (Some t) = Whole t i
-
-abbrev pub verdict : {S T : Type 0} → (finish : S → Option T) → Reading S → Verdict T
-verdict finish (Reached i s) = found i (finish s)
-verdict finish (Deep i) = TooDeep i
-
--- The machine goes on exactly as long as some tree begins so, and finishes with the tree of what it has read.
-pub record Reads {S T : Type 0} (step : ℕ → TokenKind → S → Option S) (load : S → ℕ) (finish : S → Option T)
-    (begin : (ℕ → Type 0) → List TokenKind → Type 0) (is : (ℕ → Type 0) → List TokenKind → T → Type 0) (placed : T → Type 0)
-    (from depth : ℕ) (machine : List TokenKind → Option S) : Type 0 where
-  pub more : (ks : List TokenKind) (k : TokenKind) (s : S) → machine ks ≡ Some s → machine (ks ++ k ∷ []) ≡ step (from + length ks) k s
-  pub goes_on : (ks : List TokenKind) → begin (within depth) ks → (s : S) × (machine ks ≡ Some s) × (depth + load s ≤ 256)
-  pub goes_on_deep : (ks : List TokenKind) → begin any ks → (s : S) × (machine ks ≡ Some s)
-  pub begins : (ks : List TokenKind) (s : S) → All IsOfSource ks → machine ks ≡ Some s → depth + load s ≤ 256 → begin (within depth) ks
-  pub begins_deep : (ks : List TokenKind) (s : S) → All IsOfSource ks → machine ks ≡ Some s → begin any ks
-  pub some_tree : (ks : List TokenKind) (s : S) (t : T) → All IsOfSource ks → machine ks ≡ Some s → depth + load s ≤ 256 → finish s ≡ Some t → is (within depth) ks t × placed t
-  pub no_tree : (ks : List TokenKind) (s : S) → machine ks ≡ Some s → finish s ≡ None → (t : T) → is (within depth) ks t → ⊥
+use Rattle.ob_tree.specs.Fronts.{greatest_path, kinds, within, any, FrontOf}
+use Rattle.ob_tree.specs.Verdicts.{IsLeastWithout, Stops, Verdict, IsVerdict}
+use Rattle.ob_tree.specs.Readings.{Reading, Reached, Deep, turn, read, found, verdict, CorrectPrefix}
 
 -- one token more of a list
 take-next : {A : Type 0} (xs : List A) (n : ℕ) (x : A) (rest : List A) → drop n xs ≡ x ∷ rest → take (n + 1) xs ≡ take n xs ++ x ∷ []
@@ -94,9 +58,9 @@ all-kinds ts from i a =
 le-false : (a b : ℕ) → nat_le a b ≡ false → b < a
 le-false a b h = grind (arith, nat_tests)
 
-module _ {S T : Type 0} (step : ℕ → TokenKind → S → Option S) (load : S → ℕ) (finish : S → Option T)
+module _ {S T : Type 0} (shift : ℕ → TokenKind → S → Option S) (deepest_path : S → ℕ) (finish : S → Option T)
     (begin : (ℕ → Type 0) → List TokenKind → Type 0) (is : (ℕ → Type 0) → List TokenKind → T → Type 0) (placed : T → Type 0)
-    (from depth : ℕ) (machine : List TokenKind → Option S) (reads : Reads step load finish begin is placed from depth machine)
+    (from depth : ℕ) (machine : List TokenKind → Option S) (reads : CorrectPrefix shift deepest_path finish begin is placed from depth machine)
     (ts : List Token) (all : All (λ t. IsOfSource t.kind) ts) where
   abbrev Front : ℕ → Type 0
   Front i = FrontOf (begin (within depth)) (λ ks. (t : T) × is (within depth) ks t) ts from i
@@ -108,7 +72,7 @@ module _ {S T : Type 0} (step : ℕ → TokenKind → S → Option S) (load : S 
   Right v = IsVerdict Front DeepFront from (length ts) (λ i t. is (within depth) (kinds ts from i) t) placed v
 
   -- where the machine stops
-  stopped : (i : ℕ) (s : S) → machine (kinds ts from i) ≡ Some s → depth + load s ≤ 256 → Stops Front DeepFront from (length ts) i → Right (found i (finish s))
+  stopped : (i : ℕ) (s : S) → machine (kinds ts from i) ≡ Some s → depth + deepest_path s ≤ greatest_path → Stops Front DeepFront from (length ts) i → Right (found i (finish s))
   stopped i s e l h = go (finish s) refl
     where
       go : (o : Option T) → finish s ≡ o → Right (found i o)
@@ -129,34 +93,34 @@ module _ {S T : Type 0} (step : ℕ → TokenKind → S → Option S) (load : S 
       let q : Some g.0 ≡ None = sym g.1 ∙ e in absurd cc
   no-deep i h e (inr f) = omega (arith, f.0)
 
-  too-deep : (i : ℕ) (s : S) → i < length ts → machine (kinds ts from (i + 1)) ≡ Some s → 256 < depth + load s → Front i → ⊥
+  too-deep : (i : ℕ) (s : S) → i < length ts → machine (kinds ts from (i + 1)) ≡ Some s → greatest_path < depth + deepest_path s → Front i → ⊥
   too-deep i s h e l (inl f) =
       let g = reads.goes_on (kinds ts from (i + 1)) f.1 in
       let q : Some g.0 ≡ Some s = sym g.1 ∙ e in
       let r : g.0 ≡ s = cc in
-      omega (arith, g.2, ap load r)
+      omega (arith, g.2, ap deepest_path r)
   too-deep i s h e l (inr f) = omega (arith, f.0)
 
   some-length : (rest : List Token) (i : ℕ) → drop i ts ≡ rest → i ≤ length ts → length rest ≡ length ts - i
   some-length rest i e h = ap length (sym e) ∙ length-drop i ts
 
-  pub right : (rest : List Token) (i : ℕ) (s : S) → drop i ts ≡ rest → from ≤ i → i ≤ length ts → machine (kinds ts from i) ≡ Some s → depth + load s ≤ 256
-      → ((j : ℕ) → from ≤ j → j < i → Front j) → Right (verdict finish (read step load depth i (map (λ t. t.kind) rest) s))
+  pub right : (rest : List Token) (i : ℕ) (s : S) → drop i ts ≡ rest → from ≤ i → i ≤ length ts → machine (kinds ts from i) ≡ Some s → depth + deepest_path s ≤ greatest_path
+      → ((j : ℕ) → from ≤ j → j < i → Front j) → Right (verdict finish (read shift deepest_path depth i (map (λ t. t.kind) rest) s))
   right [] i s e f b m l before =
       let w : i ≡ length ts = omega (arith, some-length [] i e b) in
       stopped i s m l (inr (w, λ j g h. before j g (omega (arith, w))))
   right (t ∷ rest) i s e f b m l before =
-      go (step i t.kind s) here (λ s2 m2 l2 b2. right rest (i + 1) s2 (drop-next ts i t rest e) (omega arith) (omega (arith, below)) m2 l2 b2)
+      go (shift i t.kind s) here (λ s2 m2 l2 b2. right rest (i + 1) s2 (drop-next ts i t rest e) (omega arith) (omega (arith, below)) m2 l2 b2)
     where
       below : i < length ts
       below = omega (arith, some-length (t ∷ rest) i e b)
 
-      here : machine (kinds ts from (i + 1)) ≡ step i t.kind s
+      here : machine (kinds ts from (i + 1)) ≡ shift i t.kind s
       here =
           let p : from + length (kinds ts from i) ≡ i = omega (arith, length-kinds ts from i f b) in
-          ap machine (kinds-next ts from i t rest f e) ∙ reads.more (kinds ts from i) t.kind s m ∙ ap (λ q. step q t.kind s) p
+          ap machine (kinds-next ts from i t rest f e) ∙ reads.more (kinds ts from i) t.kind s m ∙ ap (λ q. shift q t.kind s) p
 
-      next : (s2 : S) → machine (kinds ts from (i + 1)) ≡ Some s2 → depth + load s2 ≤ 256 → (j : ℕ) → from ≤ j → j < i + 1 → Front j
+      next : (s2 : S) → machine (kinds ts from (i + 1)) ≡ Some s2 → depth + deepest_path s2 ≤ greatest_path → (j : ℕ) → from ≤ j → j < i + 1 → Front j
       next s2 m2 l2 j g h = pick (cases_lt j i)
         where
           pick : (j < i) ⊎ (i ≤ j) → Front j
@@ -166,16 +130,16 @@ module _ {S T : Type 0} (step : ℕ → TokenKind → S → Option S) (load : S 
               subst Front q (inl (below, reads.begins (kinds ts from (i + 1)) s2 (all-kinds ts from (i + 1) all) m2 l2))
 
       go : (o : Option S) → machine (kinds ts from (i + 1)) ≡ o
-          → ((s2 : S) → machine (kinds ts from (i + 1)) ≡ Some s2 → depth + load s2 ≤ 256 → ((j : ℕ) → from ≤ j → j < i + 1 → Front j)
-          → Right (verdict finish (read step load depth (i + 1) (map (λ t. t.kind) rest) s2)))
-          → Right (verdict finish (turn load depth i s (λ u. read step load depth (i + 1) (map (λ t. t.kind) rest) u) o))
+          → ((s2 : S) → machine (kinds ts from (i + 1)) ≡ Some s2 → depth + deepest_path s2 ≤ greatest_path → ((j : ℕ) → from ≤ j → j < i + 1 → Front j)
+          → Right (verdict finish (read shift deepest_path depth (i + 1) (map (λ t. t.kind) rest) s2)))
+          → Right (verdict finish (turn deepest_path depth i s (λ u. read shift deepest_path depth (i + 1) (map (λ t. t.kind) rest) u) o))
       go None m2 again =
           stopped i s m l (inl (record { at_least = f; below = below; before = before; without = no-front i below m2 }, no-deep i below m2))
-      go (Some s2) m2 again = test (nat_le (depth + load s2) 256) refl
+      go (Some s2) m2 again = test (nat_le (depth + deepest_path s2) greatest_path) refl
         where
-          test : (b : Bool) → nat_le (depth + load s2) 256 ≡ b
-              → Right (verdict finish (cond b (read step load depth (i + 1) (map (λ t. t.kind) rest) s2) (Deep i)))
-          test true h = let l2 : depth + load s2 ≤ 256 = leb-true _ _ h in again s2 m2 l2 (next s2 m2 l2)
+          test : (b : Bool) → nat_le (depth + deepest_path s2) greatest_path ≡ b
+              → Right (verdict finish (cond b (read shift deepest_path depth (i + 1) (map (λ t. t.kind) rest) s2) (Deep i)))
+          test true h = let l2 : depth + deepest_path s2 ≤ greatest_path = leb-true _ _ h in again s2 m2 l2 (next s2 m2 l2)
           test false h = (
             record { at_least = f; below = below; before = before; without = too-deep i s2 below m2 (le-false _ _ h) },
             inl (below, reads.begins_deep (kinds ts from (i + 1)) s2 (all-kinds ts from (i + 1) all) m2),

@@ -11,11 +11,11 @@ use Rattle.ob_tree.specs.Spelling.{stars, spell_name, spell_dims}
 use Rattle.ob_tree.specs.Integers.{is_integer}
 use Rattle.ob_tree.specs.Valid.{ValidDims, ValidMemberName, HasMember}
 use Rattle.ob_tree.specs.Places.{width_name}
-use Rattle.ob_tree.proofs.Frames.{OfType, OfMember, Body, Line, Frame, InCast, InType, InStruct, State, Operand, After, Specifier, Members, Declare, Dims, AfterSpec, add_argument, add_dim, add_obj, add_member}
-use Rattle.ob_tree.proofs.Machine.{ended, spec_word, close_struct, step, run}
+use Rattle.ob_tree.specs.ExprStates.{OfType, OfMember, StructBody, StructDeclaration, PendingNode, InCast, InType, InStruct, State, BeforeOperand, AfterOperand, Specifier, Members, Declare, Dims, AfterSpec, add_argument, add_dim, add_obj, add_member}
+use Rattle.ob_tree.specs.ExprMachine.{ended, spec_word, close_struct, shift, run}
 use Rattle.ob_tree.proofs.IntegerWords.{integer-part}
-use Rattle.ob_tree.proofs.SignSteps.{no}
-use Rattle.ob_tree.proofs.Runs.{run-then, run-from, run-step}
+use Rattle.ob_tree.proofs.SignShifts.{no}
+use Rattle.ob_tree.proofs.Runs.{run-then, run-from, run-shift}
 
 -- lists one behind another
 abbrev pub append_arguments : ExprTrees → ExprTrees → ExprTrees
@@ -71,13 +71,13 @@ members-more MemberTrees.NoMembers s names ms = refl
 members-more (MemberTrees.MemberLine t others xs) s names ms = ap (MemberTrees.MemberLine t others) (members-more xs s names ms)
 
 -- a structure with more lines of members, a line with more names
-abbrev pub more_members : Body → MemberTrees → Body
+abbrev pub more_members : StructBody → MemberTrees → StructBody
 more_members b ms = record { first = b.first; tag = b.tag; members = append_members b.members ms }
 
-abbrev pub more_names : Line → ObjTrees → Line
+abbrev pub more_names : StructDeclaration → ObjTrees → StructDeclaration
 more_names l os = record { body = l.body; spec = l.spec; names = append_objs l.names os }
 
-abbrev pub add_name : Line → ObjTree → Line
+abbrev pub add_name : StructDeclaration → ObjTree → StructDeclaration
 add_name l o = record { body = l.body; spec = l.spec; names = add_obj l.names o }
 
 pub length-stars : (n : ℕ) → length (stars n) ≡ n
@@ -85,27 +85,27 @@ length-stars zero = refl
 length-stars (suc n) = ap suc (length-stars n)
 
 -- what the machine holds behind a member's name and brackets, and behind a type name's closing parenthesis
-abbrev pub obj_state : Line → ObjTree → List Frame → State
+abbrev pub obj_state : StructDeclaration → ObjTree → List PendingNode → State
 obj_state l (ObjTree.Bare n name a ds) fs = Dims (OfMember l n name a) ds fs
 obj_state l (ObjTree.Initial n name a ds i) fs = Dims (OfMember l n name a) ds fs
 
-abbrev pub type_state : Mark → Bool → TypeTree → List Frame → State
-type_state m false t fs = Operand (InCast m t ∷ fs)
-type_state m true t fs = After (ExprTree.SizeType m t) fs
+abbrev pub type_state : Mark → Bool → TypeTree → List PendingNode → State
+type_state m false t fs = BeforeOperand (InCast m t ∷ fs)
+type_state m true t fs = AfterOperand (ExprTree.SizeType m t) fs
 
 module _ (lines : ℕ → ℕ) (least : ℕ) where
   -- the words of an integer type
-  pub words-run : (p f : ℕ) (xs ws : List Keyword) (fs : List Frame) → IsTrue (is_integer (xs ++ ws))
+  pub words-run : (p f : ℕ) (xs ws : List Keyword) (fs : List PendingNode) → IsTrue (is_integer (xs ++ ws))
       → run lines least p (map kind.Word ws) (Some (AfterSpec (SpecTree.Integer f xs) fs)) ≡ Some (AfterSpec (SpecTree.Integer f (xs ++ ws)) fs)
   words-run p f xs [] fs h = ap (λ ws. Some (AfterSpec (SpecTree.Integer f ws) fs)) (sym (append-nil xs))
   words-run p f xs (w ∷ ws) fs h =
       let part : is_integer (xs ++ w ∷ []) ≡ true = integer-part xs w ws h in
       let again : IsTrue (is_integer ((xs ++ w ∷ []) ++ ws)) = subst (λ x. IsTrue (is_integer x)) (sym (append_assoc xs (w ∷ []) ws)) h in
-      run-step lines least p (kind.Word w) (map kind.Word ws) (AfterSpec (SpecTree.Integer f xs) fs) (Some (AfterSpec (SpecTree.Integer f (xs ++ w ∷ [])) fs)) (rw part refl)
+      run-shift lines least p (kind.Word w) (map kind.Word ws) (AfterSpec (SpecTree.Integer f xs) fs) (Some (AfterSpec (SpecTree.Integer f (xs ++ w ∷ [])) fs)) (rw part refl)
       ∙ words-run (p + 1) f (xs ++ w ∷ []) ws fs again
       ∙ ap (λ x. Some (AfterSpec (SpecTree.Integer f x) fs)) (append_assoc xs (w ∷ []) ws)
 
-  pub integer-starts : (p : ℕ) (w : Keyword) (ws : List Keyword) (fs : List Frame) → IsTrue (is_integer (w ∷ ws))
+  pub integer-starts : (p : ℕ) (w : Keyword) (ws : List Keyword) (fs : List PendingNode) → IsTrue (is_integer (w ∷ ws))
       → spec_word p w fs ≡ Some (AfterSpec (SpecTree.Integer p (w ∷ [])) fs)
   integer-starts p word.Char ws fs h = refl
   integer-starts p word.Short ws fs h = refl
@@ -115,22 +115,22 @@ module _ (lines : ℕ → ℕ) (least : ℕ) where
   integer-starts p word.Unsigned ws fs h = refl
   integer-starts p w ws fs h = no h
 
-  pub integer-run : (p : ℕ) (ws : List Keyword) (fs : List Frame) → IsTrue (is_integer ws)
+  pub integer-run : (p : ℕ) (ws : List Keyword) (fs : List PendingNode) → IsTrue (is_integer ws)
       → run lines least p (map kind.Word ws) (Some (Specifier fs)) ≡ Some (AfterSpec (SpecTree.Integer p ws) fs)
   integer-run p [] fs h = no h
   integer-run p (w ∷ ws) fs h =
-      run-step lines least p (kind.Word w) (map kind.Word ws) (Specifier fs) (Some (AfterSpec (SpecTree.Integer p (w ∷ [])) fs)) (integer-starts p w ws fs h)
+      run-shift lines least p (kind.Word w) (map kind.Word ws) (Specifier fs) (Some (AfterSpec (SpecTree.Integer p (w ∷ [])) fs)) (integer-starts p w ws fs h)
       ∙ words-run (p + 1) p (w ∷ []) ws fs h
 
   -- the stars of a type name and of a member
-  pub type-stars : (p : ℕ) (m : Mark) (z : Bool) (s : SpecTree) (i n : ℕ) (fs : List Frame)
+  pub type-stars : (p : ℕ) (m : Mark) (z : Bool) (s : SpecTree) (i n : ℕ) (fs : List PendingNode)
       → run lines least p (stars n) (Some (Dims (OfType m z s i) DimTrees.NoDims fs)) ≡ Some (Dims (OfType m z s (i + n)) DimTrees.NoDims fs)
   type-stars p m z s i zero fs = let e : i + 0 ≡ i = omega arith in rw e refl
   type-stars p m z s i (suc n) fs =
       let e : i + 1 + n ≡ i + suc n = omega arith in
       type-stars (p + 1) m z s (i + 1) n fs ∙ ap (λ j. Some (Dims (OfType m z s j) DimTrees.NoDims fs)) e
 
-  pub member-stars : (p : ℕ) (l : Line) (i n : ℕ) (fs : List Frame)
+  pub member-stars : (p : ℕ) (l : StructDeclaration) (i n : ℕ) (fs : List PendingNode)
       → run lines least p (stars n) (Some (Declare l i fs)) ≡ Some (Declare l (i + n) fs)
   member-stars p l i zero fs = let e : i + 0 ≡ i = omega arith in rw e refl
   member-stars p l i (suc n) fs =
@@ -138,7 +138,7 @@ module _ (lines : ℕ → ℕ) (least : ℕ) where
       member-stars (p + 1) l (i + 1) n fs ∙ ap (λ j. Some (Declare l j fs)) e
 
   -- Behind a whole specifier, its type name or its line of members goes on.
-  pub type-on : (p n : ℕ) (s : SpecTree) (m : Mark) (z : Bool) (ds : DimTrees) (ys : List TokenKind) (fs : List Frame) → ValidDims ds
+  pub type-on : (p n : ℕ) (s : SpecTree) (m : Mark) (z : Bool) (ds : DimTrees) (ys : List TokenKind) (fs : List PendingNode) → ValidDims ds
       → run lines least p (stars n ++ (spell_dims ds ++ kind.Sign sign.CloseParen ∷ ys)) (Some (AfterSpec s (InType m z ∷ fs)))
       ≡ run lines least p (stars n ++ (spell_dims ds ++ kind.Sign sign.CloseParen ∷ ys)) (Some (Dims (OfType m z s 0) DimTrees.NoDims fs))
   type-on p (suc n) s m z ds ys fs v = refl
@@ -146,14 +146,14 @@ module _ (lines : ℕ → ℕ) (least : ℕ) where
   type-on p zero s m z (DimTrees.Unsized ds) ys fs v = absurd v
   type-on p zero s m z (DimTrees.Sized e ds) ys fs v = refl
 
-  pub line-on : (p n : ℕ) (s : SpecTree) (b : Body) (name : List ℕ) (ys : List TokenKind) (fs : List Frame)
+  pub line-on : (p n : ℕ) (s : SpecTree) (b : StructBody) (name : List ℕ) (ys : List TokenKind) (fs : List PendingNode)
       → run lines least p (stars n ++ kind.Name name ∷ ys) (Some (AfterSpec s (InStruct b ∷ fs)))
       ≡ run lines least p (stars n ++ kind.Name name ∷ ys) (Some (Declare (record { body = b; spec = s; names = ObjTrees.NoDeclarators }) 0 fs))
   line-on p zero s b name ys fs = refl
   line-on p (suc n) s b name ys fs = refl
 
   -- a member's stars and name
-  pub name-run : (p : ℕ) (l : Line) (n : ℕ) (name : List ℕ) (ys : List TokenKind) (fs : List Frame)
+  pub name-run : (p : ℕ) (l : StructDeclaration) (n : ℕ) (name : List ℕ) (ys : List TokenKind) (fs : List PendingNode)
       → run lines least p (stars n ++ kind.Name name ∷ ys) (Some (Declare l 0 fs))
       ≡ run lines least (p + n + 1) ys (Some (Dims (OfMember l n name (p + n)) DimTrees.NoDims fs))
   name-run p l n name ys fs =
@@ -164,25 +164,25 @@ module _ (lines : ℕ → ℕ) (least : ℕ) where
       ∙ ap (λ q. run lines least (q + 1) ys (Some (Dims (OfMember l n name q) DimTrees.NoDims fs))) e
 
   -- `struct`, its tag and its opening brace
-  pub struct-run : (p : ℕ) (tag : Option (List ℕ)) (ys : List TokenKind) (fs : List Frame)
+  pub struct-run : (p : ℕ) (tag : Option (List ℕ)) (ys : List TokenKind) (fs : List PendingNode)
       → run lines least p (kind.Word word.Struct ∷ (spell_name tag ++ kind.Sign sign.OpenBrace ∷ ys)) (Some (Specifier fs))
       ≡ run lines least (p + width_name tag + 2) ys (Some (Members (record { first = p; tag = tag; members = MemberTrees.NoMembers }) fs))
   struct-run p None ys fs = run-from lines least (p + 1 + 1) (p + 0 + 2) ys _ (omega arith)
   struct-run p (Some tag) ys fs = run-from lines least (p + 1 + 1 + 1) (p + 1 + 2) ys _ (omega arith)
 
 -- the closing brace of a structure with members
-pub struct-ends : (f : ℕ) (tag : Option (List ℕ)) (ms : MemberTrees) (fs : List Frame) → HasMember ms
+pub struct-ends : (f : ℕ) (tag : Option (List ℕ)) (ms : MemberTrees) (fs : List PendingNode) → HasMember ms
     → close_struct f tag ms fs ≡ Some (AfterSpec (SpecTree.Struct f tag ms) fs)
 struct-ends f tag MemberTrees.NoMembers fs h = absurd h
 struct-ends f tag (MemberTrees.MemberLine s names ms) fs h = refl
 
 -- a comma and a semicolon behind a member
-pub name-comma : (least : ℕ) (m : Mark) (l : Line) (o : ObjTree) (fs : List Frame) → ValidMemberName o
-    → step least m (kind.Sign sign.Comma) (obj_state l o fs) ≡ Some (Declare (add_name l o) 0 fs)
+pub name-comma : (least : ℕ) (m : Mark) (l : StructDeclaration) (o : ObjTree) (fs : List PendingNode) → ValidMemberName o
+    → shift least m (kind.Sign sign.Comma) (obj_state l o fs) ≡ Some (Declare (add_name l o) 0 fs)
 name-comma least m l (ObjTree.Bare n name a ds) fs v = refl
 name-comma least m l (ObjTree.Initial n name a ds i) fs v = absurd v
 
-pub name-semi : (least : ℕ) (m : Mark) (l : Line) (o : ObjTree) (fs : List Frame) → ValidMemberName o
-    → step least m (kind.Sign sign.Semi) (obj_state l o fs) ≡ Some (Members (ended (add_name l o)) fs)
+pub name-semi : (least : ℕ) (m : Mark) (l : StructDeclaration) (o : ObjTree) (fs : List PendingNode) → ValidMemberName o
+    → shift least m (kind.Sign sign.Semi) (obj_state l o fs) ≡ Some (Members (ended (add_name l o)) fs)
 name-semi least m l (ObjTree.Bare n name a ds) fs v = refl
 name-semi least m l (ObjTree.Initial n name a ds i) fs v = absurd v
