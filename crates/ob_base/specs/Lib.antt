@@ -2,3 +2,4 @@ pub mod Faults
 pub mod Sink
 pub mod Folder
 pub mod Memory
+pub mod Names
