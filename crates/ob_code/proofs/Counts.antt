@@ -6,6 +6,7 @@ use Rattle.ob_words.specs.declared.types.IntType.TheVariants.{Int, Long}
 use Rattle.ob_words.specs.Operators.{binary}
 use Rattle.ob_words.specs.Words.{word, number}
 use Rattle.ob_model.specs.declared.endings.Ending.TheVariants.{Ended, Stack, Far, Spent}
+use Rattle.ob_model.specs.declared.settings.Profile.{Profile}
 use Rattle.ob_model.specs.declared.strays.Act.TheVariants as act
 use Rattle.ob_model.specs.declared.strays.StrayEvent.{StrayEvent}
 use Rattle.ob_model.specs.declared.values.LoadKind.{LoadKind}
@@ -103,9 +104,9 @@ get_char n failed [] a s e = (e, λ h. absurd (cc))
 get_char n closed (byte ∷ rest) a s e = e
 get_char n failed (byte ∷ rest) a s e = e
 
-free : (n : ℕ) (x : Freeing) (line : ℕ) (s : State) → s.instructions ≡ n → Counts n (machine.free x line s)
+free : (n : ℕ) (p : Profile) (x : Freeing) (line : ℕ) (s : State) → s.instructions ≡ n → Counts n (machine.free p x line s)
 unfolding Counts
-free n x line s e = told (free_event x line) s ∙ e
+free n p x line s e = told (free_event x line) s ∙ e
 
 act_on : (u : Setup) (i : Option Instr) (s : State) → Counts s.instructions (machine.act_on u i s)
 unfolding Counts
@@ -140,8 +141,8 @@ act_on u (Some (instr.Malloc a b)) s =
     ticked s.instructions s.steps s (λ t. machine.allocate (place_for t.space.blocks u.settings.heap (machine.get t b)) (machine.get t b) a t) refl (λ t e. e)
 act_on u (Some (instr.Calloc a b c)) s =
     ticked s.instructions s.steps s (λ t. machine.allocate (place_for t.space.blocks u.settings.heap (machine.get t b * machine.get t c)) (machine.get t b * machine.get t c) a t) refl (λ t e. e)
-act_on u (Some (instr.Free line b)) s = ticked s.instructions s.steps s (λ t. machine.free (freeing (machine.target t b)) line t) refl
-    (λ t e. free s.instructions (freeing (machine.target t b)) line t e)
+act_on u (Some (instr.Free line b)) s = ticked s.instructions s.steps s (λ t. machine.free u.settings.profile (freeing (machine.target t b)) line t) refl
+    (λ t e. free s.instructions u.settings.profile (freeing (machine.target t b)) line t e)
 act_on u (Some (instr.Exit b)) s = ticked s.instructions s.steps s (λ t. stops (Ended (number Int (machine.get t b))) t) refl (λ t e. (e, λ h. absurd (cc)))
 
 -- a run of at most n instructions, and a run after something that counts none

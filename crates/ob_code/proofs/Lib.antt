@@ -1,3 +1,4 @@
 pub mod CodeRanges
 pub mod Counts
 pub mod Blocks
+pub mod Profiles

@@ -1,7 +1,7 @@
 -- Checked loads and stores. What becomes of an access depends on what its pointer names, its displacement and its size: it is
 -- too far, at an address of the object, or astray. A stray access is told first. Then it vanishes in oblivious mode, through
--- null, and where it is ill aligned; in boundless mode it goes on at a granule of the object's own, or at one outside of the
--- object.
+-- null or a freed object's pointer, and where it is ill aligned; in boundless mode it goes on at a granule of the object's own,
+-- or at one outside of the object.
 use Rattle.std.specs.Prelude.{ℕ, List, ◌+◌, ◌-◌, ◌/◌, ◌%◌, true, ℤ, ◌+ℤ◌, unsigned_abs, Option, Some, None, unwrap_or, if◌then◌else◌}
 use Rattle.std.specs.Option.{option_map}
 use Rattle.ob_words.specs.declared.types.IntType.{IntType}
@@ -15,9 +15,10 @@ use Rattle.ob_model.specs.declared.strays.StrayEvent.{StrayEvent}
 use Rattle.ob_model.specs.declared.values.LoadKind.{LoadKind}
 use Rattle.ob_model.specs.declared.values.LoadKind.TheVariants.{Num, Ptr}
 use Rattle.ob_model.specs.Accesses as reaches
-use Rattle.ob_model.specs.Accesses.{is_far, granule, place_in_granule, Reach, reach}
+use Rattle.ob_model.specs.Accesses.{is_far, granule, place_in_granule, Reach, reach, stray_event}
 use Rattle.ob_model.specs.Bounded.{listed_cell, after_load, after_store}
 use Rattle.ob_model.specs.Cells.{Content, pointer, unset, read_number, read_pointer, written}
+use Rattle.ob_model.specs.Entries.{Known}
 use Rattle.ob_model.specs.Manufactured.{manufactured_number}
 use Rattle.ob_model.specs.Settings.{keeps_strays}
 use Rattle.ob_flat.specs.Memory.{Memory, field, with_field, has_mark, with_mark, with_zeros}
@@ -38,13 +39,15 @@ access_by reaches.own e offset = own e.object offset (e.base + unsigned_abs offs
 access_by reaches.outside e offset = outside e.object offset
 access_by reaches.vanishing e offset = vanishing e.object offset
 
-abbrev pub access_in : Mode → Entry → ℤ → ℕ → Access
-access_in mode e offset k = if is_far offset then too_far else access_by (reach (keeps_strays mode) e.size offset k) e offset
+abbrev pub access_in : Mode → Known → ℤ → ℕ → Access
+access_in mode known offset k =
+    if is_far offset then too_far
+    else access_by (reach (keeps_strays mode) known.freed known.entry.size offset k) known.entry offset
 
 -- through null the object is 0 and the offset is the displacement
 abbrev pub access_to : Mode → Target → ℤ → ℕ → Access
 access_to mode nothing d k = vanishing 0 d
-access_to mode (into e offset) d k = access_in mode e (offset +ℤ d) k
+access_to mode (into known offset) d k = access_in mode known (offset +ℤ d) k
 
 abbrev pub access : Mode → Space → ℕ → ℤ → ℕ → Access
 access mode s w d k = if is_far d then too_far else access_to mode (resolve s w) d k
@@ -95,9 +98,6 @@ after_outside_store cap kind object offset w s =
 abbrev pub made_word : LoadKind → List ℕ → ℕ → ℕ
 made_word (Num t) cycle place = word (manufactured_number t cycle place)
 made_word Ptr cycle place = 0
-
-abbrev pub stray_event : ℕ → Act → ℕ → ℤ → ℕ → StrayEvent
-stray_event line act object offset size = record { line = line; act = act; object = object; offset = offset; size = size }
 
 abbrev pub after_direct_store : LoadKind → ℕ → ℕ → Space → Space
 after_direct_store kind address w s = record s { memory = write_memory kind s.memory address w }

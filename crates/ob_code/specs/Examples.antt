@@ -4,13 +4,21 @@ use Rattle.ob_words.specs.declared.types.BinOp.TheVariants.{Add, Div, Shr}
 use Rattle.ob_words.specs.declared.types.IntType.TheVariants.{Char as char_type, Int as int_type, Long as long_type, ULong as unsigned_long}
 use Rattle.ob_words.specs.declared.types.Relation.TheVariants.{Lt}
 use Rattle.ob_model.specs.declared.settings.Mode.{Mode}
+use Rattle.ob_model.specs.declared.settings.Profile.{Profile}
+use Rattle.ob_model.specs.declared.settings.Profile.TheVariants.{One}
 use Rattle.ob_model.specs.declared.settings.RunSettings.{RunSettings}
 use Rattle.ob_model.specs.declared.values.LoadKind.TheVariants.{Num, Ptr}
 use Rattle.ob_code.specs.declared.image.FunctionRow.{FunctionRow}
 use Rattle.ob_code.specs.declared.image.Image.{Image}
+use Rattle.ob_code.specs.declared.image.PointerRow.{PointerRow}
 use Rattle.ob_code.specs.declared.image.StaticRow.{StaticRow}
 use Rattle.ob_code.specs.declared.instructions.Instr.{Instr}
 use Rattle.ob_code.specs.declared.instructions.Instr.TheVariants.{Tick, Set, Move, Convert, Binary, Compare, Jump, JumpZero, JumpNonzero, Call, Return, Static, Local, Wipe, Load, Store, Slide, SlideBy, Shift, Same, Order, Difference, GetChar, PutChar, Malloc, Calloc, Free, Exit}
+
+-- an image without names
+abbrev pub nameless : List StaticRow → List PointerRow → List FunctionRow → List Instr → Image
+nameless statics pointers functions code =
+    record { profile = One; statics = statics; pointers = pointers; functions = functions; main = 0; code = code; names = [] }
 
 -- a function without local objects
 abbrev pub function_of : ℕ → ℕ → ℕ → ℕ → FunctionRow
@@ -19,15 +27,14 @@ function_of entry params words allowance =
 
 -- an image of functions, the first of which is `main`, without static objects
 abbrev pub program_of : List FunctionRow → List Instr → Image
-program_of functions code = record { statics = []; pointers = []; functions = functions; main = 0; code = code }
+program_of functions code = nameless [] [] functions code
 
 -- one function of so many words, with static objects
 abbrev pub image_of : ℕ → ℕ → List StaticRow → List Instr → Image
-image_of words allowance statics code =
-    record { statics = statics; pointers = []; functions = function_of 0 0 words allowance ∷ []; main = 0; code = code }
+image_of words allowance statics code = nameless statics [] (function_of 0 0 words allowance ∷ []) code
 
 abbrev pub settings_of : Mode → ℕ → ℕ → RunSettings
-settings_of mode away heap = record { mode = mode; store = 2; away = away; heap = heap }
+settings_of mode away heap = record { mode = mode; store = 2; away = away; heap = heap; profile = One }
 
 abbrev pub static_of : ℕ → StaticRow
 static_of size = record { size = size; given = [] }
@@ -116,15 +123,10 @@ ordering = image_of 6 48 (static_of 2 ∷ []) (Set 3 (pos 0) ∷ Static 2 (pos 1
 -- their sum, the pointer as its distance from the second object's first byte
 abbrev pub holding : Image
 holding =
-    record {
-      statics = static_of 16 ∷ static_of 4 ∷ [];
-      pointers = record { holder = 1; offset = 8; target = 2; target_offset = 4 } ∷ [];
-      functions = function_of 0 0 7 64 ∷ [];
-      main = 0;
-      code =
-          Static 2 (pos 1) ∷ Set 3 (pos 8) ∷ Load Ptr 1 4 2 3 ∷ Static 5 (pos 2) ∷ Difference 5 4 5 (pos 1) ∷ Load (Num long_type) 2 6 2 3
-          ∷ Binary long_type Add 5 5 6 ∷ Return 5 ∷ [];
-    }
+    nameless (static_of 16 ∷ static_of 4 ∷ []) (record { holder = 1; offset = 8; target = 2; target_offset = 4 } ∷ [])
+    (function_of 0 0 7 64 ∷ [])
+    (Static 2 (pos 1) ∷ Set 3 (pos 8) ∷ Load Ptr 1 4 2 3 ∷ Static 5 (pos 2) ∷ Difference 5 4 5 (pos 1) ∷ Load (Num long_type) 2 6 2 3
+    ∷ Binary long_type Add 5 5 6 ∷ Return 5 ∷ [])
 
 -- ---- objects
 

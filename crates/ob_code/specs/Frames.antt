@@ -1,11 +1,13 @@
 -- Frames. A frame has so many words of 8 bytes, rounded up to whole blocks of 16 bytes, and then the blocks of its local
 -- objects. Word 0 is the place that the call returns to and word 1 the base of the caller's frame; arguments come from word 2
 -- on. The first frame lies at 2 ^ 24 and each next one at the end of the last.
-use Rattle.std.specs.Prelude.{ℕ, zero, suc, ◌+◌, ◌-◌, ◌*◌, ◌/◌, Bool, ◌&&◌, max, nat_le, nat_lt, List, [], ◌∷◌, length, Option, Some, None, slice_get, slice_index_or}
+use Rattle.std.specs.Prelude.{ℕ, zero, suc, ◌+◌, ◌-◌, ◌*◌, ◌/◌, Bool, max, nat_lt, List, [], ◌∷◌, length, Option, Some, None, slice_get, slice_index_or}
 use Rattle.ob_words.specs.Words.{block}
 use Rattle.ob_model.specs.declared.objects.Entry.{Entry}
 use Rattle.ob_model.specs.declared.objects.Sort.TheVariants.{Automatic}
-use Rattle.ob_model.specs.Entries.{with_entry}
+use Rattle.ob_model.specs.Entries.{Known, with_live}
+use Rattle.ob_model.specs.Limits.{stack_bytes, stack_start}
+use Rattle.ob_model.specs.Objects.{is_among}
 use Rattle.ob_flat.specs.Memory.{field, with_field, with_zeros}
 use Rattle.ob_code.specs.declared.image.FunctionRow.{FunctionRow}
 use Rattle.ob_code.specs.declared.image.LocalRow.{LocalRow}
@@ -45,7 +47,7 @@ top_function functions [] = no_function
 top_function functions (c ∷ cs) = function_at functions c.function
 
 abbrev pub next_base : List FunctionRow → List Call → ℕ
-next_base functions [] = 16777216
+next_base functions [] = stack_start
 next_base functions (c ∷ cs) = c.base + frame_length (function_at functions c.function)
 
 -- a word of the innermost call's frame
@@ -70,15 +72,15 @@ allowances functions [] = 0
 allowances functions (c ∷ cs) = (function_at functions c.function).allowance + allowances functions cs
 
 abbrev pub is_full : List FunctionRow → ℕ → List Call → Bool
-is_full functions f calls = nat_lt 1048576 ((function_at functions f).allowance + allowances functions calls)
+is_full functions f calls = nat_lt stack_bytes ((function_at functions f).allowance + allowances functions calls)
 
 -- the objects of a call: each local row's has the number of its ordinal after the call's first
 abbrev pub local_entry : ℕ → ℕ → LocalRow → Entry
 local_entry base first l = record { base = base + l.place; size = l.size; object = first + l.ordinal; sort = Automatic }
 
-abbrev pub with_locals : ℕ → ℕ → List LocalRow → List Entry → List Entry
+abbrev pub with_locals : ℕ → ℕ → List LocalRow → List Known → List Known
 with_locals base first [] entries = entries
-with_locals base first (l ∷ ls) entries = with_locals base first ls (with_entry (local_entry base first l) entries)
+with_locals base first (l ∷ ls) entries = with_locals base first ls (with_live (local_entry base first l) entries)
 
 -- entering a function: its frame becomes zero bytes, then the two link words are written, then the objects are made
 abbrev pub entered_at : FunctionRow → ℕ → ℕ → ℕ → Space → Space
@@ -94,8 +96,5 @@ abbrev pub entered : List FunctionRow → ℕ → ℕ → Space → Space
 entered functions f link s = entered_at (function_at functions f) f link (next_base functions s.calls) s
 
 -- leaving the innermost call: its objects die
-abbrev pub is_among : ℕ → ℕ → ℕ → Bool
-is_among first count object = nat_le first object && nat_lt object (first + count)
-
 abbrev pub left_call : List FunctionRow → Call → List Call → Space → Space
 left_call functions c cs s = record (after_death (is_among c.first (function_at functions c.function).vars) s) { calls = cs }

@@ -8,9 +8,9 @@ use Rattle.ob_model.specs.declared.settings.Mode.TheVariants.{Oblivious, Boundle
 use Rattle.ob_model.specs.declared.settings.RunSettings.{RunSettings}
 use Rattle.ob_model.specs.declared.strays.Act.TheVariants as act
 use Rattle.ob_model.specs.declared.strays.StrayEvent.{StrayEvent}
+use Rattle.ob_model.specs.Accesses.{stray_event}
 use Rattle.ob_model.specs.Endings.{InputEnd, closed, failed, plain}
 use Rattle.ob_code.specs.declared.image.Image.{Image}
-use Rattle.ob_code.specs.Accesses.{stray_event}
 use Rattle.ob_code.specs.Examples as examples
 use Rattle.ob_code.specs.Examples.{settings_of}
 use Rattle.ob_code.specs.Start.{flat_final, flat_instructions, laid_out, run_from, outcome_of}

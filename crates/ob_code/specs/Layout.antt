@@ -1,7 +1,9 @@
 -- Where static and local objects lie. Static objects lie from address 4096 on, each at the end of the block before it.
-use Rattle.std.specs.Prelude.{ℕ, ◌+◌, ◌-◌, ◌*◌, List, [], ◌∷◌, take, slice_index_or}
+use Rattle.std.specs.Prelude.{ℕ, ◌+◌, ◌-◌, ◌*◌, ◌==◌, List, [], ◌∷◌, take, Option, slice_index_or}
+use Rattle.std.specs.List.{find}
 use Rattle.ob_words.specs.Words.{block}
 use Rattle.ob_model.specs.Accesses.{own_granules}
+use Rattle.ob_model.specs.Limits.{statics_start}
 use Rattle.ob_flat.specs.Memory.{with_zeros}
 use Rattle.ob_code.specs.declared.image.FunctionRow.{FunctionRow}
 use Rattle.ob_code.specs.declared.image.LocalRow.{LocalRow}
@@ -15,7 +17,11 @@ static_blocks [] = 0
 static_blocks (r ∷ rs) = block r.size + static_blocks rs
 
 abbrev pub static_base : List StaticRow → ℕ → ℕ
-static_base rows object = 4096 + static_blocks (take (object - 1) rows)
+static_base rows object = statics_start + static_blocks (take (object - 1) rows)
+
+-- the local row of a variable of a function, by its ordinal
+abbrev pub local_of : FunctionRow → ℕ → Option LocalRow
+local_of f ordinal = find (λ l. l.ordinal == ordinal) f.locals
 
 -- the base of a local object of the innermost call
 abbrev pub no_local : LocalRow

@@ -1,3 +1,6 @@
+pub mod Limits
+pub mod Kinds
+pub mod Names
 pub mod State
 pub mod Frames
 pub mod Pointers
@@ -6,8 +9,9 @@ pub mod Allocation
 pub mod Layout
 pub mod Machine
 pub mod Start
+pub mod Standing
+pub mod Shown
 pub mod Examples
 pub mod Laws
 pub mod Rules
-pub mod Unbuilt
 pub mod FirstFault

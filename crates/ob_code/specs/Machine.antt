@@ -8,6 +8,7 @@ use Rattle.ob_words.specs.declared.types.IntType.{IntType}
 use Rattle.ob_words.specs.declared.types.IntType.TheVariants.{Int, Long}
 use Rattle.ob_words.specs.Operators.{binary, compare}
 use Rattle.ob_words.specs.Words.{word, number}
+use Rattle.ob_model.specs.declared.settings.Profile.{Profile}
 use Rattle.ob_model.specs.declared.endings.Ending.TheVariants.{Ended, Steps, Divide, Stack, Descriptors, Far, Spent, ReadFault}
 use Rattle.ob_model.specs.declared.strays.StrayEvent.{StrayEvent}
 use Rattle.ob_model.specs.declared.strays.Act.TheVariants as act
@@ -16,6 +17,8 @@ use Rattle.ob_model.specs.Accesses.{bytes_of_kind, is_far}
 use Rattle.ob_model.specs.Endings.{InputEnd, closed, failed}
 use Rattle.ob_model.specs.Heap.{place_for}
 use Rattle.ob_model.specs.Manufactured.{place_after}
+use Rattle.ob_model.specs.Pointers.{pointers_compare, difference}
+use Rattle.ob_model.specs.declared.values.Value.{Value}
 use Rattle.ob_code.specs.declared.image.Image.{Image}
 use Rattle.ob_code.specs.declared.instructions.Instr.{Instr}
 use Rattle.ob_code.specs.declared.instructions.Instr.TheVariants.{Tick, Set, Move, Convert, Binary, Compare, Jump, JumpZero, JumpNonzero, Call, Return, Static, Local, Wipe, Load, Store, Slide, SlideBy, Shift, Same, Order, Difference, GetChar, PutChar, Malloc, Calloc, Free, Exit}
@@ -145,6 +148,9 @@ set_shifted pointers.no_slot a s = stops Descriptors s
 abbrev pub target : State → ℕ → pointers.Target
 target s i = pointers.resolve s.space (get s i)
 
+abbrev pub pointer_in : State → ℕ → Value
+pointer_in s i = pointers.pointer_of (target s i)
+
 -- ---- input and output
 
 -- a source gives bytes alone, but the list may be any: each of its numbers counts modulo 256
@@ -161,8 +167,8 @@ put_char byte a s = set_word (record s { output = s.output ++ byte ∷ [] }) a b
 abbrev pub allocate : Option ℕ → ℕ → ℕ → State → Next
 allocate place n a s = set_word (record s { space = allocated_at place n s.space }) a (place_word place)
 
-abbrev pub free : Freeing → ℕ → State → Next
-free x line s = goes (on (record (told (free_event x line) s) { space = space_after_free x s.space }))
+abbrev pub free : Profile → Freeing → ℕ → State → Next
+free profile x line s = goes (on (record (told (free_event x line) s) { space = space_after_free profile x s.space }))
 
 -- ---- the instructions; outside the code a run ends
 
@@ -209,8 +215,8 @@ act_on u (Some (Shift a b c)) s =
 -- a becomes 1 where the words b and c are equal, else 0
 act_on u (Some (Same a b c)) s = set_word s a (flag (get s b == get s c))
 -- a becomes 1 where the pointers b and c stand in the relation, else 0; or how many elements lie between them
-act_on u (Some (Order relation a b c)) s = set_word s a (flag (pointers.order relation (target s b) (target s c)))
-act_on u (Some (Difference a b c imm)) s = set_word s a (word (pointers.difference (target s b) (target s c) imm))
+act_on u (Some (Order relation a b c)) s = set_word s a (flag (pointers_compare relation (pointer_in s b) (pointer_in s c)))
+act_on u (Some (Difference a b c imm)) s = set_word s a (word (difference (unsigned_abs imm) (pointer_in s b) (pointer_in s c)))
 -- takes a step; a becomes the next byte of the input, or -1 at its end
 act_on u (Some (GetChar a)) s = ticked s.steps s (λ t. get_char u.input_end t.input a t)
 -- takes a step, writes the low byte of b, and puts it into a
@@ -221,7 +227,7 @@ act_on u (Some (Malloc a b)) s =
 act_on u (Some (Calloc a b c)) s =
     ticked s.steps s (λ t. allocate (place_for t.space.blocks u.settings.heap (get t b * get t c)) (get t b * get t c) a t)
 -- takes a step, and frees what b points to
-act_on u (Some (Free line b)) s = ticked s.steps s (λ t. free (freeing (target t b)) line t)
+act_on u (Some (Free line b)) s = ticked s.steps s (λ t. free u.settings.profile (freeing (target t b)) line t)
 -- takes a step, and ends the run with the `int` of b
 act_on u (Some (Exit b)) s = ticked s.steps s (λ t. stops (Ended (number Int (get t b))) t)
 

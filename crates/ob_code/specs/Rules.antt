@@ -6,12 +6,19 @@ use Rattle.ob_words.specs.declared.types.Relation.TheVariants.{Lt, Gt, Le, Ge, E
 use Rattle.ob_code.specs.declared.image.FunctionRow.{FunctionRow}
 use Rattle.ob_code.specs.declared.image.Image.{Image}
 use Rattle.ob_code.specs.declared.image.LocalRow.{LocalRow}
+use Rattle.ob_code.specs.declared.image.NameRow.{NameRow}
 use Rattle.ob_code.specs.declared.image.PointerRow.{PointerRow}
 use Rattle.ob_code.specs.declared.image.StaticRow.{StaticRow}
 use Rattle.ob_code.specs.declared.instructions.Instr.{Instr}
 use Rattle.ob_code.specs.declared.instructions.Instr.TheVariants.{Tick, Set, Move, Convert, Binary, Compare, Jump, JumpZero, JumpNonzero, Call, Return, Static, Local, Wipe, Load, Store, Slide, SlideBy, Shift, Same, Order, Difference, GetChar, PutChar, Malloc, Calloc, Free, Exit}
 use Rattle.ob_code.specs.Frames.{function_at, words_end, local_end, frame_length}
-use Rattle.ob_code.specs.Layout.{static_blocks, no_local}
+use Rattle.ob_model.specs.declared.values.LoadKind.{LoadKind}
+use Rattle.ob_model.specs.Accesses.{bytes_of_kind}
+use Rattle.ob_model.specs.Limits.{most_object_bytes, most_static_bytes}
+use Rattle.ob_code.specs.Kinds.{load_kind_of, no_load_kind}
+use Rattle.ob_code.specs.Layout.{static_blocks, no_local, local_of}
+use Rattle.ob_code.specs.Limits.{most_statics, most_pointers, most_functions, most_instructions, most_names, most_words, most_variables, most_allowance, most_scale, most_name_bytes}
+use Rattle.ob_code.specs.Names.{IsName}
 
 -- ---- static objects
 
@@ -23,10 +30,10 @@ static_at rows i = slice_index_or rows i no_static
 
 -- a static object has a size and first bytes within it, of which the last isn't 0, and the blocks up to it fit
 pub record IsStaticSound (rows : List StaticRow) (i : ℕ) : Type 0 where
-  pub size : (static_at rows i).size ≤ 4194304
+  pub size : (static_at rows i).size ≤ most_object_bytes
   pub given : length (static_at rows i).given ≤ (static_at rows i).size
   pub last : 0 < length (static_at rows i).given → slice_index (static_at rows i).given (length (static_at rows i).given - 1) ≢ 0
-  pub fits : static_blocks (take (i + 1) rows) ≤ 4194304
+  pub fits : static_blocks (take (i + 1) rows) ≤ most_static_bytes
 
 -- ---- pointers that static objects hold
 
@@ -69,7 +76,7 @@ local_at f j = slice_index_or f.locals j no_local
 -- a local object lies in whole blocks after the frame's words and the objects before it
 pub record IsLocalSound (f : FunctionRow) (j : ℕ) : Type 0 where
   pub ordinal : (local_at f j).ordinal < f.vars
-  pub size : (local_at f j).size ≤ 4194304
+  pub size : (local_at f j).size ≤ most_object_bytes
   pub multiple : (local_at f j).place % 16 ≡ 0
   pub after_words : words_end f.words ≤ (local_at f j).place
   pub ordinals : 0 < j → (local_at f (j - 1)).ordinal < (local_at f j).ordinal
@@ -78,11 +85,11 @@ pub record IsLocalSound (f : FunctionRow) (j : ℕ) : Type 0 where
 -- a frame has words for the links and parameters, and its stack allowance covers it
 pub record IsFrameSound (f : FunctionRow) : Type 0 where
   pub least_words : 2 + f.params ≤ f.words
-  pub most_words : f.words ≤ 4194304
-  pub vars : f.vars ≤ 524288
+  pub most_words : f.words ≤ most_words
+  pub vars : f.vars ≤ most_variables
   pub locals : (j : ℕ) → j < length f.locals → IsLocalSound f j
   pub multiple : f.allowance % 16 ≡ 0
-  pub most_allowance : f.allowance ≤ 2 ^ 62
+  pub most_allowance : f.allowance ≤ most_allowance
   pub covers : frame_length f ≤ f.allowance
 
 -- the first entry is 0, entries increase, and each is a place of the code
@@ -170,9 +177,9 @@ AreOperandsSound image f (Load kind line a b c) =
 AreOperandsSound image f (Store kind line a b c) =
     (a < words_of image f) × (b < words_of image f) × (c < words_of image f)
 AreOperandsSound image f (Slide a b c imm) =
-    IsWritten (words_of image f) a × (b < words_of image f) × (c < words_of image f) × (unsigned_abs imm ≤ 4194304)
+    IsWritten (words_of image f) a × (b < words_of image f) × (c < words_of image f) × (unsigned_abs imm ≤ most_scale)
 AreOperandsSound image f (SlideBy a b imm) =
-    IsWritten (words_of image f) a × (b < words_of image f) × IsBetween 0 4194304 imm
+    IsWritten (words_of image f) a × (b < words_of image f) × IsBetween 0 most_scale imm
 AreOperandsSound image f (Shift a b c) =
     IsWritten (words_of image f) a × (b < words_of image f) × (c < words_of image f)
 AreOperandsSound image f (Same a b c) =
@@ -180,7 +187,7 @@ AreOperandsSound image f (Same a b c) =
 AreOperandsSound image f (Order relation a b c) =
     IsWritten (words_of image f) a × (b < words_of image f) × (c < words_of image f) × IsOrdering relation
 AreOperandsSound image f (Difference a b c imm) =
-    IsWritten (words_of image f) a × (b < words_of image f) × (c < words_of image f) × IsBetween 1 4194304 imm
+    IsWritten (words_of image f) a × (b < words_of image f) × (c < words_of image f) × IsBetween 1 most_scale imm
 AreOperandsSound image f (GetChar a) = IsWritten (words_of image f) a
 AreOperandsSound image f (PutChar a b) = IsWritten (words_of image f) a × (b < words_of image f)
 AreOperandsSound image f (Malloc a b) = IsWritten (words_of image f) a × (b < words_of image f)
@@ -207,6 +214,58 @@ pub record IsInstructionSound (image : Image) (f i : ℕ) : Type 0 where
 abbrev pub IsCodeSound : Image → ℕ → Type 0
 IsCodeSound image i = (f : ℕ) → IsCodeOf image f i → IsInstructionSound image f i
 
+-- ---- names of variables
+
+abbrev pub no_name : NameRow
+no_name = record { holder = 0; ordinal = 0; line = 0; word = 0; kind = 0; name = [] }
+
+abbrev pub name_at : List NameRow → ℕ → NameRow
+name_at rows i = slice_index_or rows i no_name
+
+-- one row stands before another: by holder, then by ordinal
+abbrev pub IsNamedBefore : NameRow → NameRow → Type 0
+IsNamedBefore p q = (p.holder < q.holder) ⊎ ((p.holder ≡ q.holder) × (p.ordinal < q.ordinal))
+
+-- the bytes of a variable of this kind at least; an array or structure has any size
+abbrev pub bytes_of_number : Option LoadKind → ℕ
+bytes_of_number None = 0
+bytes_of_number (Some kind) = bytes_of_kind kind
+
+abbrev pub least_bytes : ℕ → ℕ
+least_bytes kind = bytes_of_number (load_kind_of kind)
+
+-- a static object's name: the object exists and has the size of the kind, and no frame word
+pub record IsStaticNameSound (image : Image) (row : NameRow) : Type 0 where
+  pub exists : HasStatic image.statics row.ordinal
+  pub word : row.word ≡ 0
+  pub size : least_bytes row.kind ≤ (static_at image.statics (row.ordinal - 1)).size
+
+-- a variable's local row, where it has bytes of its own, has the size of the kind
+abbrev pub IsLocalLong : Option LocalRow → ℕ → Type 0
+IsLocalLong None kind = ⊥
+IsLocalLong (Some l) kind = least_bytes kind ≤ l.size
+
+-- the name of a variable of a function: the function has the variable, whose word is none of the links; where it has word 0, the
+-- function has a local row of its ordinal
+pub record IsVariableNameSound (f : FunctionRow) (row : NameRow) : Type 0 where
+  pub ordinal : row.ordinal < f.vars
+  pub word : (row.word ≡ 0) ⊎ IsWritten f.words row.word
+  pub local : row.word ≡ 0 → IsLocalLong (local_of f row.ordinal) row.kind
+
+abbrev pub IsHeldSound : Image → NameRow → Type 0
+IsHeldSound image row =
+    ((row.holder ≡ 0) × IsStaticNameSound image row)
+    ⊎ ((1 ≤ row.holder) × (row.holder ≤ length image.functions) × IsVariableNameSound (function_at image.functions (row.holder - 1)) row)
+
+-- rows increase by holder and ordinal; an array or structure has no frame word, and no kind is greater; the name is one
+pub record IsNameRowSound (image : Image) (i : ℕ) : Type 0 where
+  pub order : 0 < i → IsNamedBefore (name_at image.names (i - 1)) (name_at image.names i)
+  pub held : IsHeldSound image (name_at image.names i)
+  pub kind : (name_at image.names i).kind ≤ no_load_kind
+  pub whole : (name_at image.names i).kind ≡ no_load_kind → (name_at image.names i).word ≡ 0
+  pub name : IsName (name_at image.names i).name
+  pub short : length (name_at image.names i).name ≤ most_name_bytes
+
 -- ---- the whole image
 
 -- so many rows at most, and each of them is sound
@@ -215,17 +274,20 @@ pub record AreSound (limit count : ℕ) (Rule : ℕ → Type 0) : Type 0 where
   pub each : (i : ℕ) → i < count → Rule i
 
 abbrev pub AreStaticsSound : Image → Type 0
-AreStaticsSound image = AreSound 262144 (length image.statics) (IsStaticSound image.statics)
+AreStaticsSound image = AreSound most_statics (length image.statics) (IsStaticSound image.statics)
 
 abbrev pub ArePointersSound : Image → Type 0
-ArePointersSound image = AreSound 524288 (length image.pointers) (IsPointerSound image.statics image.pointers)
+ArePointersSound image = AreSound most_pointers (length image.pointers) (IsPointerSound image.statics image.pointers)
 
 pub record AreFunctionsSound (image : Image) : Type 0 where
   pub some : 0 < length image.functions
-  pub rows : AreSound 65536 (length image.functions) (IsFunctionSound image)
+  pub rows : AreSound most_functions (length image.functions) (IsFunctionSound image)
 
 abbrev pub IsAllCodeSound : Image → Type 0
-IsAllCodeSound image = AreSound 1048576 (length image.code) (IsCodeSound image)
+IsAllCodeSound image = AreSound most_instructions (length image.code) (IsCodeSound image)
+
+abbrev pub AreNamesSound : Image → Type 0
+AreNamesSound image = AreSound most_names (length image.names) (IsNameRowSound image)
 
 pub record IsVerified (image : Image) : Type 0 where
   pub statics : AreStaticsSound image
@@ -233,3 +295,4 @@ pub record IsVerified (image : Image) : Type 0 where
   pub functions : AreFunctionsSound image
   pub main : IsMainSound image
   pub code : IsAllCodeSound image
+  pub names : AreNamesSound image

@@ -5,7 +5,8 @@ use Rattle.ob_words.specs.Words.{block}
 use Rattle.ob_model.specs.declared.objects.Sort.TheVariants.{Static}
 use Rattle.ob_model.specs.declared.settings.RunSettings.{RunSettings}
 use Rattle.ob_model.specs.Endings.{InputEnd, Outcome, plain}
-use Rattle.ob_model.specs.Entries.{with_entry}
+use Rattle.ob_model.specs.Entries.{with_live}
+use Rattle.ob_model.specs.Limits.{stack_bytes, statics_start}
 use Rattle.ob_flat.specs.Memory.{Memory, index, with_field, with_mark, zeroed}
 use Rattle.ob_code.specs.declared.image.Image.{Image}
 use Rattle.ob_code.specs.declared.image.PointerRow.{PointerRow}
@@ -26,7 +27,7 @@ with_statics base object (r ∷ rs) s =
     with_statics (base + block r.size) (object + 1) rs
     (record s {
       memory = with_bytes s.memory base r.given;
-      entries = with_entry (record { base = base; size = r.size; object = object; sort = Static }) s.entries;
+      entries = with_live (record { base = base; size = r.size; object = object; sort = Static }) s.entries;
     })
 
 -- the pointers that they hold
@@ -50,7 +51,7 @@ with_static_pointers statics pointers s = record s { memory = with_pointers stat
 abbrev pub laid_out : ℕ → List StaticRow → List PointerRow → RunSettings → Space
 laid_out stack statics pointers settings =
     with_static_pointers statics pointers
-    (with_statics 4096 1 statics (empty_space (zeroed (static_blocks statics) stack settings.heap) (length statics + 1)))
+    (with_statics statics_start 1 statics (empty_space (zeroed (static_blocks statics) stack settings.heap) (length statics + 1)))
 
 -- the state before anything is done
 abbrev pub fresh : Space → ℕ → List ℕ → ℕ → State
@@ -71,9 +72,6 @@ run_from u space place input steps =
     after (started u.image (fresh space place input steps)) (runs u (most_instructions u.image steps))
 
 -- the whole run of an image: under settings, from a place of a cycle of manufactured values, on an input, for so many steps
-abbrev pub stack_bytes : ℕ
-stack_bytes = 1048576
-
 abbrev pub flat_final : Image → RunSettings → List ℕ → ℕ → List ℕ → InputEnd → ℕ → Final
 flat_final image settings cycle place input input_end steps =
     run_from (record { image = image; settings = settings; cycle = cycle; input_end = input_end })

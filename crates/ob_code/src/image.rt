@@ -1,6 +1,7 @@
 use crate::instructions::Instr;
 use crate::rows::Rows;
 use ob_base::Text;
+use ob_model::Profile;
 
 /// A static object: its size in bytes, and its first bytes. The bytes that aren't given are 0.
 #[derive(Debug, Drop)]
@@ -42,13 +43,31 @@ pub struct FunctionRow {
     pub locals: Rows<LocalRow>,
 }
 
-/// A program for the flat machine. `main` is the number of the function that is called first, counted
-/// from 0.
+/// The name of a variable. `holder` is 0 for a static object, and else the number of the variable's
+/// function, counted from 1. `ordinal` is the static object's number from 1, or the variable's ordinal
+/// among its function's. `line` is the source line of its declaration. `word` is the frame word of a
+/// variable that has no bytes of its own, and else 0. `kind` is 0 to 10 for the integer types in the order
+/// of `IntType`, 11 for a pointer, and 12 for an array or structure.
+#[derive(Debug, Drop)]
+pub struct NameRow {
+    pub holder: u32,
+    pub ordinal: u32,
+    pub line: u32,
+    pub word: u32,
+    pub kind: u32,
+    pub name: Text,
+}
+
+/// A program for the flat machine. `profile` is the one that it was compiled for, which a run takes where
+/// no other is asked for. `main` is the number of the function that is called first, counted from 0.
+/// `names` are those of variables; no run reads them.
 #[derive(Debug, Drop)]
 pub struct Image {
+    pub profile: Profile,
     pub statics: Rows<StaticRow>,
     pub pointers: Rows<PointerRow>,
     pub functions: Rows<FunctionRow>,
     pub main: u32,
     pub code: Rows<Instr>,
+    pub names: Rows<NameRow>,
 }

@@ -5,7 +5,7 @@
 #![tactic(auto)]
 
 pub use faults::{BadImage, Part};
-pub use image::{FunctionRow, Image, LocalRow, PointerRow, StaticRow};
+pub use image::{FunctionRow, Image, LocalRow, NameRow, PointerRow, StaticRow};
 pub use instructions::Instr;
 pub use laws::{
     law_control_runs, law_number_runs, law_object_runs, law_pointer_runs, law_runs_are_bounded,

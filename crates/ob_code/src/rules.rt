@@ -3,6 +3,6 @@
 pub mod code;
 pub mod functions;
 pub mod main_function;
+pub mod names;
 pub mod pointers;
 pub mod statics;
-pub mod unbuilt;

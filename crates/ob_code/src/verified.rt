@@ -5,8 +5,10 @@ use crate::image::Image;
 use crate::rules::code::code_fault;
 use crate::rules::functions::function_fault;
 use crate::rules::main_function::main_is_sound;
+use crate::rules::names::name_fault;
 use crate::rules::pointers::pointer_fault;
 use crate::rules::statics::static_fault;
+use ob_model::Profile;
 use std::marker::Model;
 
 /// An image that keeps every rule of the machine.
@@ -20,34 +22,43 @@ impl Model for Verified {
 
     ghost Value = { Image };
 
-    ghost use Rattle.ob_code.specs.FirstFault.{IsRunnable};
+    ghost use Rattle.ob_code.specs.Rules.{IsVerified};
 
     ghost view = { λ v. v.image };
 
-    ghost invariant = { λ v. IsRunnable v.image };
+    ghost invariant = { λ v. IsVerified v.image };
 }
 
 impl Verified {
     ghost use Rattle.ob_code.specs.Rules.{IsVerified};
-    ghost use Rattle.ob_code.specs.Unbuilt.{IsBuilt};
 
     /// The image, which keeps every rule.
     pub fn image(&self) -> &Image
         ensures value { result.now ≡ self.now }
         ensures rules { IsVerified self.now }
-        ensures built { IsBuilt self.now }
     {
         &self.image
     }
+
+    /// The same image for another profile. Takes no memory.
+    #[tactic(auto, using(crate::proofs::Profiles::verified_for))]
+    pub fn with_profile(self, profile: Profile) -> Verified
+        ensures { result ≡ record self { profile = profile } }
+    {
+        let Verified { mut image } = self;
+        image.profile = profile;
+        Verified { image }
+    }
 }
 
-ghost use Rattle.ob_code.specs.FirstFault.{IsRunnable, IsFirstFault};
+ghost use Rattle.ob_code.specs.FirstFault.{IsFirstFault};
+ghost use Rattle.ob_code.specs.Rules.{IsVerified};
 
 /// Tests an image, part by part and row by row. Refused exactly where a rule is broken, at the first part
-/// and row that breaks one. Static objects, local objects and the instructions on objects and pointers are
-/// refused as well, since the machine doesn't run them yet. Takes no memory.
+/// and row that breaks one: static objects, pointers, functions, `main`, code, and then names. A part with
+/// too many rows is at fault before any of them. Takes no memory.
 pub fn verify(image: Image) -> Result<Verified, BadImage>
-    ensures { MatchResult result (λ v. (v ≡ image) × IsRunnable image) (IsFirstFault image) }
+    ensures { MatchResult result (λ v. (v ≡ image) × IsVerified image) (IsFirstFault image) }
 {
     match first_fault(&image) {
         None => Ok(Verified { image }),
@@ -56,7 +67,7 @@ pub fn verify(image: Image) -> Result<Verified, BadImage>
 }
 
 fn first_fault(image: &Image) -> Option<BadImage>
-    ensures { MatchOption result (IsRunnable image.now) (IsFirstFault image.now) }
+    ensures { MatchOption result (IsVerified image.now) (IsFirstFault image.now) }
 {
     if let Some(at) = static_fault(image) {
         return Some(BadImage {
@@ -82,9 +93,15 @@ fn first_fault(image: &Image) -> Option<BadImage>
             at: 0,
         });
     }
-    let at = code_fault(image)?;
+    if let Some(at) = code_fault(image) {
+        return Some(BadImage {
+            part: Part::Code,
+            at,
+        });
+    }
+    let at = name_fault(image)?;
     Some(BadImage {
-        part: Part::Code,
+        part: Part::Names,
         at,
     })
 }

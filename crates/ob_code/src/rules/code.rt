@@ -1,12 +1,11 @@
 ghost use Rattle.std.specs.Prelude.{◌≡◌, ◌+◌, ◌<◌, ◌≤◌, ◌↔◌, IsTrue, length, unsigned_abs};
 ghost use Rattle.ob_code.specs.Frames.{function_at};
-ghost use Rattle.ob_code.specs.Rules.{IsCodeOf, AreFunctionsSound, code_end, words_of, IsWritten, IsPlaceOf, IsBelow, IsBetween, IsOrdering, IsLast, AreOperandsSound, IsInstructionSound};
-ghost use Rattle.ob_code.specs.Unbuilt.{IsCodeBuilt};
-ghost use Rattle.ob_code.specs.FirstFault.{IsPartAnswer, IsCodeRunnable};
+ghost use Rattle.ob_code.specs.Rules.{IsCodeOf, AreFunctionsSound, code_end, words_of, IsWritten, IsPlaceOf, IsBelow, IsBetween, IsOrdering, IsLast, AreOperandsSound, IsInstructionSound, IsCodeSound};
+ghost use Rattle.ob_code.specs.FirstFault.{IsPartAnswer};
+ghost use Rattle.ob_code.specs.Limits.{most_instructions};
 
 use crate::image::Image;
 use crate::instructions::Instr;
-use crate::rules::unbuilt::instruction_is_built;
 use ob_words::Relation;
 
 const MOST_INSTRUCTIONS: usize = 1_048_576;
@@ -22,7 +21,7 @@ fn code_end(image: &Image, f: usize) -> usize
     }
 }
 
-fn is_written(words: u32, a: u32) -> bool
+pub fn is_written(words: u32, a: u32) -> bool
     ensures { IsTrue result ↔ IsWritten words a }
 {
     2 <= a && a < words
@@ -155,14 +154,6 @@ fn instruction_is_sound(image: &Image, f: usize, i: usize) -> bool
     goes_on && operands_are_sound(image, f, instr)
 }
 
-fn instruction_is_runnable(image: &Image, f: usize, i: usize) -> bool
-    requires function { f < length image.now.functions }
-    requires place { i < length image.now.code }
-    ensures { IsTrue result ↔ (IsInstructionSound image.now f i × IsCodeBuilt image.now i) }
-{
-    instruction_is_sound(image, f, i) && instruction_is_built(image.code.as_slice()[i])
-}
-
 // The function whose code has place i, where f is that of the place before.
 fn holder(image: &Image, f: usize, i: usize) -> usize
     requires sound { AreFunctionsSound image.now }
@@ -178,7 +169,7 @@ fn holder(image: &Image, f: usize, i: usize) -> usize
 /// The first instruction that breaks a rule.
 pub fn code_fault(image: &Image) -> Option<u64>
     requires { AreFunctionsSound image.now }
-    ensures { IsPartAnswer 1048576 (length image.now.code) (IsCodeRunnable image.now) result }
+    ensures { IsPartAnswer most_instructions (length image.now.code) (IsCodeSound image.now) result }
 {
     let count = image.code.as_slice().len();
     if count > MOST_INSTRUCTIONS {
@@ -187,7 +178,7 @@ pub fn code_fault(image: &Image) -> Option<u64>
     let mut f = 0;
     for i in 0..count {
         f = holder(image, f, i);
-        if !instruction_is_runnable(image, f, i) {
+        if !instruction_is_sound(image, f, i) {
             return Some(i as u64);
         }
     }

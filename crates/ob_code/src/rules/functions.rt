@@ -1,11 +1,10 @@
 ghost use Rattle.std.specs.Prelude.{◌≡◌, ◌+◌, ◌<◌, ◌≤◌, ◌^◌, ◌↔◌, IsTrue, ℕ, length, MatchOption};
 ghost use Rattle.ob_words.specs.Words.{block};
 ghost use Rattle.ob_code.specs.Frames.{words_end, local_end, locals_end, frame_length, function_at};
-ghost use Rattle.ob_code.specs.Rules.{IsLocalSound, local_at, IsFrameSound, IsEntrySound, IsFunctionSound};
-ghost use Rattle.ob_code.specs.FirstFault.{AreFunctionsRunnable, IsFunctionFault};
+ghost use Rattle.ob_code.specs.Rules.{IsLocalSound, local_at, IsFrameSound, IsEntrySound, IsFunctionSound, AreFunctionsSound};
+ghost use Rattle.ob_code.specs.FirstFault.{IsFunctionFault};
 
 use crate::image::{FunctionRow, Image, LocalRow};
-use crate::rules::unbuilt::function_is_built;
 
 const MOST_FUNCTIONS: usize = 65_536;
 
@@ -104,7 +103,7 @@ fn function_is_sound(image: &Image, i: usize) -> bool
 
 /// The first function row that breaks a rule: 0 where there is none.
 pub fn function_fault(image: &Image) -> Option<u64>
-    ensures { MatchOption result (AreFunctionsRunnable image.now) (IsFunctionFault image.now) }
+    ensures { MatchOption result (AreFunctionsSound image.now) (IsFunctionFault image.now) }
 {
     let count = image.functions.as_slice().len();
     if count == 0 {
@@ -114,8 +113,7 @@ pub fn function_fault(image: &Image) -> Option<u64>
         return Some(MOST_FUNCTIONS as u64);
     }
     for i in 0..count {
-        let f = &image.functions.as_slice()[i];
-        if !function_is_sound(image, i) || !function_is_built(f) {
+        if !function_is_sound(image, i) {
             return Some(i as u64);
         }
     }

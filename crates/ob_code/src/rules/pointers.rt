@@ -1,13 +1,14 @@
 ghost use Rattle.std.specs.Prelude.{◌≡◌, ℕ, ◌+◌, ◌<◌, ◌≤◌, ◌^◌, ◌↔◌, IsTrue, length, slice_index};
 ghost use Rattle.ob_code.specs.Rules.{HasStatic, IsBefore, IsHolderSound, IsTargetSound, IsPointerSound};
 ghost use Rattle.ob_code.specs.FirstFault.{IsPartAnswer};
+ghost use Rattle.ob_code.specs.Limits.{most_pointers};
 
 use crate::image::{Image, PointerRow, StaticRow};
 
 const MOST_POINTERS: usize = 524_288;
 
 // Whether there is a static object of this number, from 1.
-fn has_static(statics: &[StaticRow], object: u32) -> bool
+pub fn has_static(statics: &[StaticRow], object: u32) -> bool
     ensures { IsTrue result ↔ HasStatic statics.now object }
 {
     1 <= object && object as usize <= statics.len()
@@ -82,7 +83,7 @@ fn pointer_is_sound(image: &Image, i: usize) -> bool
 
 /// The first pointer row that breaks a rule.
 pub fn pointer_fault(image: &Image) -> Option<u64>
-    ensures { IsPartAnswer 524288 (length image.now.pointers) (IsPointerSound image.now.statics image.now.pointers) result }
+    ensures { IsPartAnswer most_pointers (length image.now.pointers) (IsPointerSound image.now.statics image.now.pointers) result }
 {
     let count = image.pointers.as_slice().len();
     if count > MOST_POINTERS {

@@ -1,10 +1,11 @@
 ghost use Rattle.std.specs.Prelude.{◌≡◌, ◌≢◌, ◌+◌, ◌-◌, ◌<◌, ◌≤◌, ◌↔◌, IsTrue, length, slice_index, take};
 ghost use Rattle.ob_code.specs.Layout.{static_blocks};
 ghost use Rattle.ob_code.specs.Rules.{IsStaticSound, static_at};
-ghost use Rattle.ob_code.specs.FirstFault.{IsPartAnswer, IsStaticRunnable};
+ghost use Rattle.ob_code.specs.FirstFault.{IsPartAnswer};
+ghost use Rattle.ob_code.specs.Limits.{most_statics};
+ghost use Rattle.ob_model.specs.Limits.{most_object_bytes, most_static_bytes};
 
 use crate::image::{Image, StaticRow};
-use crate::rules::unbuilt::static_is_built;
 use ob_words::block;
 
 const MOST_STATICS: usize = 262_144;
@@ -26,10 +27,10 @@ fn ends_well(given: &[u8]) -> bool
 fn blocks_fit(rows: &[StaticRow], i: usize, size: u64, blocks: u64) -> bool
     requires row { i < length rows.now }
     requires size { size ≡ (static_at rows.now i).size }
-    requires small { size ≤ 4194304 }
+    requires small { size ≤ most_object_bytes }
     requires blocks { blocks ≡ static_blocks (take i rows.now) }
-    requires few { blocks ≤ 4194304 }
-    ensures { IsTrue result ↔ (static_blocks (take (i + 1) rows.now) ≤ 4194304) }
+    requires few { blocks ≤ most_static_bytes }
+    ensures { IsTrue result ↔ (static_blocks (take (i + 1) rows.now) ≤ most_static_bytes) }
 {
     blocks + block(size) <= MOST_BYTES
 }
@@ -37,7 +38,7 @@ fn blocks_fit(rows: &[StaticRow], i: usize, size: u64, blocks: u64) -> bool
 fn static_is_sound(rows: &[StaticRow], i: usize, blocks: u64) -> bool
     requires row { i < length rows.now }
     requires blocks { blocks ≡ static_blocks (take i rows.now) }
-    requires few { blocks ≤ 4194304 }
+    requires few { blocks ≤ most_static_bytes }
     ensures { IsTrue result ↔ IsStaticSound rows.now i }
 {
     let row = &rows[i];
@@ -51,7 +52,7 @@ fn static_is_sound(rows: &[StaticRow], i: usize, blocks: u64) -> bool
 /// The first static row that breaks a rule.
 #[tactic(auto, using(crate::proofs::Blocks::blocks_up_to))]
 pub fn static_fault(image: &Image) -> Option<u64>
-    ensures { IsPartAnswer 262144 (length image.now.statics) (IsStaticRunnable image.now) result }
+    ensures { IsPartAnswer most_statics (length image.now.statics) (IsStaticSound image.now.statics) result }
 {
     let rows = image.statics.as_slice();
     if rows.len() > MOST_STATICS {
@@ -59,7 +60,7 @@ pub fn static_fault(image: &Image) -> Option<u64>
     }
     let mut blocks = 0;
     for i in 0..rows.len() {
-        if !static_is_sound(rows, i, blocks) || !static_is_built() {
+        if !static_is_sound(rows, i, blocks) {
             return Some(i as u64);
         }
         blocks += block(rows[i].size);

@@ -1,4 +1,5 @@
-use Rattle.ob_code.specs.Start.{laid_out, stack_bytes}
+use Rattle.ob_model.specs.Limits.{stack_bytes}
+use Rattle.ob_code.specs.Start.{laid_out}
 use Rattle.ob_code.proofs.Counts.{bounded, spent_is_exact}
 use Rattle.ob_code.proofs.laws.law_runs_are_bounded.Goals as goal
 

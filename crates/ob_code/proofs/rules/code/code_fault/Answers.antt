@@ -6,11 +6,11 @@ use Rattle.ob_code.proofs.rules.code.code_fault.Goals as goal
 false_is_true : false ≡ true → ⊥
 false_is_true h = cc
 
-pub returns-then-not-instruction_is_runnable : goal.returns-then-not-instruction_is_runnable
-returns-then-not-instruction_is_runnable c =
+pub returns-then-not-instruction_is_sound : goal.returns-then-not-instruction_is_sound
+returns-then-not-instruction_is_sound c =
     let same = ap length c.as_slice-count.ensures in
     broken (omega (arith, same)) (omega (arith, same))
-    (λ good. absurd (false_is_true (c.if-not-instruction_is_runnable.ensures.1 (good.0 c.holder-f.result c.holder-f.ensures, good.1))))
+    (λ good. absurd (false_is_true (c.if-not-instruction_is_sound.ensures.1 (good c.holder-f.result c.holder-f.ensures))))
     c.loop-i.invariant.sound
 
 pub loop-i-preserved : goal.loop-i-preserved
@@ -21,6 +21,5 @@ loop-i-preserved c =
       before_end = omega (arith, c.holder-f.ensures.before_end);
       sound =
           below_more _ _ c.loop-i.invariant.sound
-          (let good = c.if-not-instruction_is_runnable.ensures.0 refl in
-          (sound_at c.args.image.now c.holder-f.result c.loop-i.i c.requires c.holder-f.ensures good.0, good.1));
+          (sound_at c.args.image.now c.holder-f.result c.loop-i.i c.requires c.holder-f.ensures (c.if-not-instruction_is_sound.ensures.0 refl));
     }
