@@ -8,7 +8,7 @@ use Rattle.ob_model.specs.declared.strays.Act.TheVariants as act
 use Rattle.ob_model.specs.declared.strays.StrayEvent.{StrayEvent}
 use Rattle.ob_model.specs.declared.values.LoadKind.{LoadKind}
 use Rattle.ob_model.specs.declared.values.Value.{Value}
-use Rattle.ob_model.specs.Accesses.{Reach, bytes_of_kind, granule}
+use Rattle.ob_model.specs.Accesses.{Reach, bytes_of_kind, granule, stray_event}
 use Rattle.ob_model.specs.Accesses as reaches
 use Rattle.ob_model.specs.Bounded.{Listed, after_load, after_store, dropped, listed_cell, put_first, without_granule}
 use Rattle.ob_model.specs.Cells.{unset}
@@ -16,7 +16,7 @@ use Rattle.ob_model.specs.Endings.{dropped as too_many}
 use Rattle.ob_meaning.specs.Accesses.{Target, dead_object, too_far, at, target, outside_cell, first_drop, put_outside, or_made, load_outside, load_stray, store_outside, store_stray, told_if_stray, load_at, store_at, load, store}
 use Rattle.ob_meaning.specs.Memory.{own_cell}
 use Rattle.ob_meaning.specs.Values.{Cell, nothing, read_cell, write_cell}
-use Rattle.ob_meaning.specs.World.{kept, unlimited, World, stop, go, end_of, stray_event, told}
+use Rattle.ob_meaning.specs.World.{kept, unlimited, World, stop, go, end_of, told}
 use Rattle.ob_meaning.proofs.Alike.{Acts, Alike, Beside, IsLater, begins_more, begins_self, later_self, later_then, with_outside}
 use Rattle.ob_meaning.proofs.OutsideLists.{cell_in, length-without, listed_is, without-none}
 use Rattle.ob_meaning.proofs.SameMaps.{SameMap, same-length, same-put, same-used}

@@ -1,7 +1,6 @@
 -- Moves, comparisons, the heap, input and output go alike with unlimited objects and with a bounded list: none of them sees
 -- the granules outside of objects, but that a death takes those of an object away.
-use Rattle.std.proofs.Common.{◌≡◌, ℕ, ◌≤◌, ◌==◌, ◌&&◌, Bool, not, nat_lt, ℤ, pos, ◌+ℤ◌, List, [], ◌∷◌, length, Option, Some, None, if◌then◌else◌, arith, refl, sym, subst, unsigned_abs}
-use Rattle.std.specs.Ordering.{int_eq}
+use Rattle.std.proofs.Common.{◌≡◌, ℕ, ◌≤◌, ◌==◌, Bool, not, nat_lt, ℤ, List, [], ◌∷◌, length, Option, Some, None, if◌then◌else◌, arith, refl, sym, subst, unsigned_abs}
 use Rattle.std.proofs.lemmas.List.Sums.{count_by-le-length, length-filter}
 use Rattle.ob_words.specs.declared.types.IntType.TheVariants.{UChar, Int, Long}
 use Rattle.ob_words.specs.declared.types.Relation.{Relation}
@@ -11,16 +10,19 @@ use Rattle.ob_model.specs.declared.endings.Ending.TheVariants.{Ended, Far, Descr
 use Rattle.ob_model.specs.declared.strays.Act.TheVariants as act
 use Rattle.ob_model.specs.declared.values.Value.{Value}
 use Rattle.ob_model.specs.declared.values.Value.TheVariants as value
-use Rattle.ob_model.specs.Accesses.{is_far, is_inside}
+use Rattle.ob_model.specs.Accesses.{is_far, stray_event}
 use Rattle.ob_model.specs.Bounded.{Listed, surviving_cells}
 use Rattle.ob_model.specs.Descriptors.{Pair}
 use Rattle.ob_model.specs.Endings.{InputEnd, closed, failed, plain, dead}
 use Rattle.ob_model.specs.Heap.{place_for}
-use Rattle.ob_meaning.specs.Heap.{allocated, allocated_at, exited, free, freed, is_heap, read_byte, write_byte}
+use Rattle.ob_model.specs.Pointers.{Moved, stays_null, too_far, in_bounds, out_of_bounds, difference, moved_by, pointers_compare}
+use Rattle.ob_model.specs.declared.settings.Profile.{Profile}
+use Rattle.ob_model.specs.declared.settings.Profile.TheVariants.{One, Two}
+use Rattle.ob_meaning.specs.Heap.{allocated, allocated_at, exited, free, free_known, freed_under, frees_it, read_byte, write_byte}
 use Rattle.ob_meaning.specs.Memory.{is_dead, object_at}
-use Rattle.ob_meaning.specs.Pointers.{compared, difference, formed, is_listed, listed, move, moved_by, moved_to, one_is_dead, pointers_compare, subtracted, uses_dead}
+use Rattle.ob_meaning.specs.Pointers.{compared, formed, is_listed, listed, move, moved, one_is_dead, size_at, subtracted, uses_dead}
 use Rattle.ob_meaning.specs.Values.{Cell, nothing, number_of, truth}
-use Rattle.ob_meaning.specs.World.{World, Run, stop, go, end_of, stray_event, told, without}
+use Rattle.ob_meaning.specs.World.{World, Run, stop, go, end_of, told, without}
 use Rattle.ob_meaning.proofs.Alike.{Acts, Alike, Beside, IsLater, alike_if, begins_more, begins_self, go_acts, if_acts, later_if, later_self, stop_acts, with_outside}
 use Rattle.ob_meaning.proofs.AlikeAccesses.{later_told}
 use Rattle.ob_meaning.proofs.SameMaps.{same-surviving}
@@ -46,22 +48,19 @@ module _ (cap : ℕ) where
             (later_if cap w (nat_lt (length w.out_of_bounds) away) (go at (more w)) (stop (plain Descriptors) w) (later_self w) (later_self w));
       }
 
-  moved_to_acts : (away object : ℕ) (offset : ℤ) → Acts cap (moved_to away object offset) (moved_to away object offset)
-  moved_to_acts away object offset =
-      let at : Value = value.Ptr object offset in
-      let s = listed_acts away (object, offset) in
-      record {
-        alike = λ w ks b.
-            alike_if cap (is_inside (object_at w.objects object).size offset 0) (go at w) (go at (with_outside ks w)) (listed away (object, offset) w) (listed away (object, offset) (with_outside ks w)) (ks, refl, b) (s.alike w ks b);
-        later = λ w.
-            later_if cap w (is_inside (object_at w.objects object).size offset 0) (go at w) (listed away (object, offset) w) (later_self w) (s.later w);
-      }
+  moved_acts : (away : ℕ) (m : Moved) → Acts cap (moved away m) (moved away m)
+  moved_acts away stays_null = go_acts cap value.Null
+  moved_acts away too_far = stop_acts cap Far
+  moved_acts away (in_bounds object offset) = go_acts cap (value.Ptr object offset)
+  moved_acts away (out_of_bounds object offset) = listed_acts away (object, offset)
 
-  moved_by_acts : (away : ℕ) (p : Value) (d : ℤ) → Acts cap (moved_by away p d) (moved_by away p d)
-  moved_by_acts away (value.Ptr object offset) d =
-      if_acts cap (is_far (offset +ℤ d)) (stop (plain Far)) (stop (plain Far)) (moved_to away object (offset +ℤ d)) (moved_to away object (offset +ℤ d)) (stop_acts cap Far) (moved_to_acts away object (offset +ℤ d))
-  moved_by_acts away value.Null d = go_acts cap value.Null
-  moved_by_acts away (value.Num n) d = go_acts cap value.Null
+  -- where a move leads depends on the objects alone
+  moved_by_acts : (away : ℕ) (p : Value) (d : ℤ) → Acts cap (λ w. moved away (moved_by (size_at w.objects p) p d) w) (λ w. moved away (moved_by (size_at w.objects p) p d) w)
+  moved_by_acts away p d =
+      record {
+        alike = λ w ks b. (moved_acts away (moved_by (size_at w.objects p) p d)).alike w ks b;
+        later = λ w. (moved_acts away (moved_by (size_at w.objects p) p d)).later w;
+      }
 
   -- an act that is not done where a test of the objects finds a dead pointer
   unless_dead : {A : Type 0} (test : World → Bool) (line : ℕ) (f g : World → Run A) → ((w : World) (ks : List (Listed Cell)) → test (with_outside ks w) ≡ test w) → Acts cap f g → Acts cap (λ w. if test w then stop (dead line) w else f w) (λ w. if test w then stop (dead line) w else g w)
@@ -74,7 +73,8 @@ module _ (cap : ℕ) where
 
   pub move_acts : (away line : ℕ) (p : Value) (d : ℤ) → Acts cap (move away line p d) (move away line p d)
   move_acts away line p d =
-      unless_dead (λ w. is_dead w.objects p) line (λ w. formed d w (moved_by away p)) (λ w. formed d w (moved_by away p)) (λ w ks. refl) (formed_acts d (moved_by away p) (moved_by away p) (moved_by_acts away p))
+      let on = λ (e : ℤ) (w : World). moved away (moved_by (size_at w.objects p) p e) w in
+      unless_dead (λ w. is_dead w.objects p) line (λ w. formed d w on) (λ w. formed d w on) (λ w ks. refl) (formed_acts d on on (moved_by_acts away p))
 
   -- ---- comparisons
 
@@ -118,21 +118,34 @@ module _ (cap : ℕ) where
       let fewer : length (surviving_cells dies w.outside) ≤ length w.outside = rw (length-filter (λ e. not (dies e.object)) w.outside) (count_by-le-length (λ e. not (dies e.object)) w.outside) in
       (same-surviving dies w.outside ks b.0, omega (arith, fewer, b.1), b.2)
 
-  freed_acts : (line : ℕ) (p : Value) → Acts cap (freed line p) (freed line p)
-  freed_acts line (value.Num n) = go_acts cap nothing
-  freed_acts line value.Null = go_acts cap nothing
-  freed_acts line (value.Ptr object offset) =
+  -- an object that is freed, too
+  freed_alike : (profile : Profile) (object : ℕ) (w : World) (ks : List (Listed Cell)) → Beside cap w ks → Alike cap (go nothing (freed_under profile object w)) (go nothing (freed_under profile object (with_outside ks w)))
+  freed_alike One object w ks b =
       let dies = λ (other : ℕ). other == object in
+      (surviving_cells dies ks, refl, beside_without dies w ks b)
+  freed_alike Two object w ks b =
+      let dies = λ (other : ℕ). other == object in
+      (surviving_cells dies ks, refl, beside_without dies w ks b)
+
+  freed_later : (profile : Profile) (object : ℕ) (w : World) → IsLater w (freed_under profile object w)
+  freed_later One object w = later_self w
+  freed_later Two object w = later_self w
+
+  known_acts : (profile : Profile) (line : ℕ) (p : Value) → Acts cap (free_known profile line p) (free_known profile line p)
+  known_acts profile line (value.Num n) = go_acts cap nothing
+  known_acts profile line value.Null = go_acts cap nothing
+  known_acts profile line (value.Ptr object offset) =
       let stray = stray_event line act.Free object offset 0 in
       record {
         alike = λ w ks b.
-            alike_if cap (is_heap (object_at w.objects object).sort && int_eq offset (pos 0)) (go nothing (without dies w)) (go nothing (without dies (with_outside ks w))) (go nothing (told stray w)) (go nothing (told stray (with_outside ks w))) (surviving_cells dies ks, refl, beside_without dies w ks b) (ks, refl, b);
+            alike_if cap (frees_it (object_at w.objects object) offset) (go nothing (freed_under profile object w)) (go nothing (freed_under profile object (with_outside ks w))) (go nothing (told stray w)) (go nothing (told stray (with_outside ks w))) (freed_alike profile object w ks b) (ks, refl, b);
         later = λ w.
-            later_if cap w (is_heap (object_at w.objects object).sort && int_eq offset (pos 0)) (go nothing (without dies w)) (go nothing (told stray w)) (later_self w) (later_told stray w);
+            later_if cap w (frees_it (object_at w.objects object) offset) (go nothing (freed_under profile object w)) (go nothing (told stray w)) (freed_later profile object w) (later_told stray w);
       }
 
-  pub free_acts : (line : ℕ) (p : Value) → Acts cap (free line p) (free line p)
-  free_acts line p = unless_dead (λ w. is_dead w.objects p) line (freed line p) (freed line p) (λ w ks. refl) (freed_acts line p)
+  pub free_acts : (profile : Profile) (line : ℕ) (p : Value) → Acts cap (free profile line p) (free profile line p)
+  free_acts profile line p =
+      unless_dead (λ w. is_dead w.objects p) line (free_known profile line p) (free_known profile line p) (λ w ks. refl) (known_acts profile line p)
 
   -- ---- input and output
 

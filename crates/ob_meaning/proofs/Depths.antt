@@ -4,7 +4,8 @@ use Rattle.ob_model.specs.declared.endings.Ending.TheVariants.{Stack}
 use Rattle.ob_model.specs.Endings.{plain}
 use Rattle.ob_tree.specs.Types.{PlainType}
 use Rattle.ob_tree.specs.Types.PlainType.{Void, Int, Pointer, Array, Struct}
-use Rattle.ob_meaning.specs.Calls.{allowance_of, allowances, below, entered, left_to, stack_bytes}
+use Rattle.ob_model.specs.Limits.{stack_bytes}
+use Rattle.ob_meaning.specs.Calls.{allowance_of, allowances, below, entered, left_to}
 use Rattle.ob_meaning.specs.Depth.{BoundOnCallsIsFree, BoundOnTurnsIsFree}
 use Rattle.ob_meaning.specs.Expressions.{choose}
 use Rattle.ob_meaning.specs.Initialisers.{cleared, local_type}
@@ -83,7 +84,7 @@ agree_acts u b =
       Fewer = AgreeBelow (pred b);
       fewer = fewer_agree b;
       goes = λ a. one_act b (go a) (λ w. refl);
-      stops = λ e. one_act b (stop (plain e)) (λ w. refl);
+      stops = λ e own. one_act b (stop (plain e)) (λ w. refl);
       binds = binds_agree b;
       fewer_binds = binds_agree (pred b);
       steps = steps_agree b;
@@ -93,7 +94,7 @@ agree_acts u b =
       compares = λ r line p q. one_act b _ (λ w. quiet_left w _ (quiet_compared r line p q w));
       subtracts = λ size line p q. one_act b _ (λ w. quiet_left w _ (quiet_subtracted size line p q w));
       allocates = λ n. one_act b _ (λ w. quiet_left w _ (quiet_allocated u.settings.heap n w));
-      frees = λ line p. one_act b _ (λ w. quiet_left w _ (quiet_free line p w));
+      frees = λ line p. one_act b _ (λ w. quiet_left w _ (quiet_free u.settings.profile line p w));
       reads = one_act b _ (λ w. quiet_left w _ (quiet_read u.input_end w.input w));
       writes = λ v. one_act b _ (λ w. refl);
       locals = λ i. one_act b _ (λ w. refl);

@@ -6,10 +6,11 @@ use Rattle.ob_model.specs.Bounded.{Listed, surviving_cells}
 use Rattle.ob_model.specs.Endings.{plain, dead, dropped}
 use Rattle.ob_tree.specs.Types.{PlainType}
 use Rattle.ob_tree.specs.Types.PlainType.{Void, Int, Pointer, Array, Struct}
-use Rattle.ob_meaning.specs.Calls.{allowance_of, allowances, below, entered, left_to, stack_bytes}
+use Rattle.ob_model.specs.Limits.{stack_bytes}
+use Rattle.ob_meaning.specs.Calls.{allowance_of, allowances, below, entered, left_to}
 use Rattle.ob_meaning.specs.FirstDrop.{GoesOnFrom, RunsAreAlikeToTheFirstDrop}
 use Rattle.ob_meaning.specs.Initialisers.{cleared, local_type}
-use Rattle.ob_meaning.specs.Memory.{is_among}
+use Rattle.ob_model.specs.Objects.{is_among}
 use Rattle.ob_meaning.specs.Runs.{finish_of, first_world, outcome_of, run, setup_of}
 use Rattle.ob_meaning.specs.Setup.{Setup, first_local, function_at}
 use Rattle.ob_meaning.specs.Values.{Cell}
@@ -65,7 +66,7 @@ module _ (cap : ℕ) (u : Setup) where
         Fewer = Acts cap;
         fewer = λ f g s. s;
         goes = go_acts cap;
-        stops = stop_acts cap;
+        stops = λ e own. stop_acts cap e;
         binds = bind_acts cap;
         fewer_binds = bind_acts cap;
         steps = step_acts cap;
@@ -75,7 +76,7 @@ module _ (cap : ℕ) (u : Setup) where
         compares = compared_acts cap;
         subtracts = subtracted_acts cap;
         allocates = allocated_acts cap u.settings.heap;
-        frees = free_acts cap;
+        frees = free_acts cap u.settings.profile;
         reads = read_acts cap u.input_end;
         writes = write_acts cap;
         locals = λ i. record { alike = λ w ks b. (ks, refl, b); later = λ w. later_self w };

@@ -15,8 +15,14 @@ pub mod Related
 pub mod RelatedExpressions
 pub mod RelatedStatements
 pub mod Modes
+pub mod Invariants
+pub mod OutsideCells
 pub mod WholeObjects
 pub mod WholeRuns
+pub mod StatesOfObjects
+pub mod LivesOfRuns
+pub mod Ends
+pub mod ShownValues
 pub mod CountedScalars
 pub mod TypedActs
 pub mod TypedAccesses

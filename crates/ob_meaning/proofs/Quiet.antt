@@ -1,6 +1,5 @@
 -- Acts that take no step and drop nothing.
-use Rattle.std.proofs.Common.{◌≡◌, ℕ, ◌==◌, ◌&&◌, ◌||◌, Bool, true, false, nat_lt, ℤ, pos, ◌+ℤ◌, List, [], ◌∷◌, length, is_some, Option, Some, None, if◌then◌else◌, refl}
-use Rattle.std.specs.Ordering.{int_eq}
+use Rattle.std.proofs.Common.{◌≡◌, ℕ, ◌||◌, Bool, true, false, nat_lt, ℤ, List, [], ◌∷◌, length, is_some, Option, Some, None, if◌then◌else◌, refl}
 use Rattle.ob_words.specs.declared.types.IntType.TheVariants.{Long}
 use Rattle.ob_words.specs.declared.types.Relation.{Relation}
 use Rattle.ob_words.specs.Conversion.{convert}
@@ -9,18 +8,21 @@ use Rattle.ob_model.specs.declared.strays.Act.TheVariants as act
 use Rattle.ob_model.specs.declared.values.LoadKind.{LoadKind}
 use Rattle.ob_model.specs.declared.values.Value.{Value}
 use Rattle.ob_model.specs.declared.values.Value.TheVariants as value
-use Rattle.ob_model.specs.Accesses.{Reach, bytes_of_kind, granule, is_far, is_inside}
+use Rattle.ob_model.specs.Accesses.{Reach, bytes_of_kind, granule, is_far, stray_event}
 use Rattle.ob_model.specs.Accesses as reaches
 use Rattle.ob_model.specs.Bounded.{listed_cell, put_first}
 use Rattle.ob_model.specs.Descriptors.{Pair}
 use Rattle.ob_model.specs.Endings.{Finish, InputEnd, closed, failed, plain, dead, dropped}
 use Rattle.ob_model.specs.Heap.{place_for}
+use Rattle.ob_model.specs.Pointers.{Moved, stays_null, too_far as far, in_bounds, out_of_bounds, difference, moved_by, pointers_compare}
+use Rattle.ob_model.specs.declared.settings.Profile.{Profile}
+use Rattle.ob_model.specs.declared.settings.Profile.TheVariants.{One, Two}
 use Rattle.ob_meaning.specs.Accesses.{Target, dead_object, too_far, at, after_outside_load, load, load_at, or_made, outside_cell, put_outside, store, store_at, target}
-use Rattle.ob_meaning.specs.Heap.{allocated, allocated_at, free, freed, is_heap, read_byte}
+use Rattle.ob_meaning.specs.Heap.{allocated, allocated_at, free, free_known, freed_under, frees_it, read_byte}
 use Rattle.ob_meaning.specs.Memory.{is_dead, object_at, own_cell}
-use Rattle.ob_meaning.specs.Pointers.{compared, difference, is_listed, listed, move, moved_by, moved_to, one_is_dead, pointers_compare, subtracted, uses_dead}
+use Rattle.ob_meaning.specs.Pointers.{compared, is_listed, listed, move, moved, one_is_dead, size_at, subtracted, uses_dead}
 use Rattle.ob_meaning.specs.Values.{Cell, nothing, read_cell, truth, write_cell}
-use Rattle.ob_meaning.specs.World.{Rule, vanish, kept, unlimited, World, Run, stop, go, end_of, stray_event, told, without}
+use Rattle.ob_meaning.specs.World.{Rule, vanish, kept, unlimited, World, Run, stop, go, end_of, told}
 
 -- no step was taken, and nothing was dropped
 abbrev pub IsStill : World → World → Type 0
@@ -108,19 +110,16 @@ quiet_listed away pair w =
     let more : World = record w { out_of_bounds = pair ∷ w.out_of_bounds } in
     quiet_if w (is_listed pair w.out_of_bounds) (go at w) (if nat_lt (length w.out_of_bounds) away then go at more else stop (plain Descriptors) w) (refl, refl) (quiet_if w (nat_lt (length w.out_of_bounds) away) (go at more) (stop (plain Descriptors) w) (refl, refl) (tt, (refl, refl)))
 
-quiet_moved_to : (away object : ℕ) (offset : ℤ) (w : World) → Quiet w (moved_to away object offset w)
-quiet_moved_to away object offset w =
-    quiet_if w (is_inside (object_at w.objects object).size offset 0) (go (value.Ptr object offset) w) (listed away (object, offset) w) (refl, refl) (quiet_listed away (object, offset) w)
-
-quiet_moved_by : (away : ℕ) (p : Value) (d : ℤ) (w : World) → Quiet w (moved_by away p d w)
-quiet_moved_by away (value.Ptr object offset) d w =
-    quiet_if w (is_far (offset +ℤ d)) (stop (plain Far) w) (moved_to away object (offset +ℤ d) w) (tt, (refl, refl)) (quiet_moved_to away object (offset +ℤ d) w)
-quiet_moved_by away value.Null d w = (refl, refl)
-quiet_moved_by away (value.Num n) d w = (refl, refl)
+quiet_moved : (away : ℕ) (m : Moved) (w : World) → Quiet w (moved away m w)
+quiet_moved away stays_null w = (refl, refl)
+quiet_moved away far w = (tt, (refl, refl))
+quiet_moved away (in_bounds object offset) w = (refl, refl)
+quiet_moved away (out_of_bounds object offset) w = quiet_listed away (object, offset) w
 
 pub quiet_move : (away line : ℕ) (p : Value) (d : ℤ) (w : World) → Quiet w (move away line p d w)
 quiet_move away line p d w =
-    quiet_if w (is_dead w.objects p) (stop (dead line) w) (if is_far d then stop (plain Far) w else moved_by away p d w) (tt, (refl, refl)) (quiet_if w (is_far d) (stop (plain Far) w) (moved_by away p d w) (tt, (refl, refl)) (quiet_moved_by away p d w))
+    let m : Moved = moved_by (size_at w.objects p) p d in
+    quiet_if w (is_dead w.objects p) (stop (dead line) w) (if is_far d then stop (plain Far) w else moved away m w) (tt, (refl, refl)) (quiet_if w (is_far d) (stop (plain Far) w) (moved away m w) (tt, (refl, refl)) (quiet_moved away m w))
 
 pub quiet_compared : (r : Relation) (line : ℕ) (p q : Value) (w : World) → Quiet w (compared r line p q w)
 quiet_compared r line p q w =
@@ -139,15 +138,19 @@ quiet_allocated_at (Some place) n w = (refl, refl)
 pub quiet_allocated : (heap n : ℕ) (w : World) → Quiet w (allocated heap n w)
 quiet_allocated heap n w = quiet_allocated_at (place_for w.heap heap n) n w
 
-quiet_freed : (line : ℕ) (p : Value) (w : World) → Quiet w (freed line p w)
-quiet_freed line (value.Num n) w = (refl, refl)
-quiet_freed line value.Null w = (refl, refl)
-quiet_freed line (value.Ptr object offset) w =
-    quiet_if w (is_heap (object_at w.objects object).sort && int_eq offset (pos 0)) (go nothing (without (λ other. other == object) w)) (go nothing (told (stray_event line act.Free object offset 0) w)) (refl, refl) (refl, refl)
+quiet_freed : (profile : Profile) (object : ℕ) (w : World) → Quiet w (go nothing (freed_under profile object w))
+quiet_freed One object w = (refl, refl)
+quiet_freed Two object w = (refl, refl)
 
-pub quiet_free : (line : ℕ) (p : Value) (w : World) → Quiet w (free line p w)
-quiet_free line p w =
-    quiet_if w (is_dead w.objects p) (stop (dead line) w) (freed line p w) (tt, (refl, refl)) (quiet_freed line p w)
+quiet_known : (profile : Profile) (line : ℕ) (p : Value) (w : World) → Quiet w (free_known profile line p w)
+quiet_known profile line (value.Num n) w = (refl, refl)
+quiet_known profile line value.Null w = (refl, refl)
+quiet_known profile line (value.Ptr object offset) w =
+    quiet_if w (frees_it (object_at w.objects object) offset) (go nothing (freed_under profile object w)) (go nothing (told (stray_event line act.Free object offset 0) w)) (quiet_freed profile object w) (refl, refl)
+
+pub quiet_free : (profile : Profile) (line : ℕ) (p : Value) (w : World) → Quiet w (free profile line p w)
+quiet_free profile line p w =
+    quiet_if w (is_dead w.objects p) (stop (dead line) w) (free_known profile line p w) (tt, (refl, refl)) (quiet_known profile line p w)
 
 pub quiet_read : (input_end : InputEnd) (input : List ℕ) (w : World) → Quiet w (read_byte input_end input w)
 quiet_read closed (byte ∷ rest) w = (refl, refl)

@@ -1,9 +1,8 @@
 -- What is stored inside of an object is loaded again.
-use Rattle.std.proofs.Common.{◌≡◌, ℕ, zero, suc, ◌+◌, ◌/◌, ◌%◌, ◌^◌, ◌<◌, ◌≤◌, nat_lt, Bool, true, false, ℤ, pos, negsuc, ◌+ℤ◌, unsigned_abs, List, [], ◌∷◌, length, map, take, drop, Option, Some, is_some, slice_index_or, arith, refl, sym, subst, ◌∙◌, ap, All}
+use Rattle.std.proofs.Common.{◌≡◌, ℕ, zero, suc, ◌+◌, ◌/◌, ◌%◌, ◌^◌, ◌<◌, ◌≤◌, true, false, ℤ, pos, negsuc, ◌+ℤ◌, unsigned_abs, List, [], ◌∷◌, length, map, take, drop, Option, Some, is_some, slice_index_or, arith, refl, sym, subst, ◌∙◌, ap, All}
 use Rattle.std.specs.Option.{option_map}
-use Rattle.std.proofs.lemmas.Bool.Decides.{nat_tests}
 use Rattle.std.proofs.lemmas.Int.{ints}
-use Rattle.std.proofs.lemmas.List.{get_or-set_same, get_or_past, take-map, drop-map}
+use Rattle.std.proofs.lemmas.List.{get_or-set_same, take-map, drop-map}
 use Rattle.std.proofs.lemmas.List.Elements.{All-head, All-tail}
 use Rattle.std.proofs.lemmas.Nat.{div-add-mod'}
 use Rattle.ob_words.specs.declared.types.IntType.{IntType}
@@ -21,16 +20,17 @@ use Rattle.ob_model.specs.declared.values.Value.{Value}
 use Rattle.ob_model.specs.declared.values.Value.TheVariants as value
 use Rattle.ob_model.specs.Accesses.{IsInside, bytes_of_kind, granule, is_stray, place_in_granule}
 use Rattle.ob_model.specs.Accesses as reaches
+use Rattle.ob_model.specs.Objects.{ObjectState, is_dead_state, is_freed}
 use Rattle.ob_model.specs.Cells.{bytes, has_eight, pointer, read_number, set_bytes, written, zeros}
 use Rattle.ob_model.proofs.Astray.{others_inside, strays_are_others}
 use Rattle.ob_model.proofs.ReadBack.{written_is_read}
 use Rattle.ob_meaning.specs.Accesses.{Target, at, keeps, load, load_at, load_own, or_made, store_at, target}
 use Rattle.ob_meaning.specs.Memory.{Object, no_object, object_at, own_cell, with_own, with_own_cell}
-use Rattle.ob_meaning.specs.MemoryLaws.{IsWhole, LoadsInsideTakeNone, is_full, Reaches, StoredIsLoaded, as_stored, stored}
+use Rattle.ob_meaning.specs.MemoryLaws.{IsWhole, LoadsInsideTakeNone, Reaches, StoredIsLoaded, as_stored, is_astray, is_full, stored}
 use Rattle.ob_meaning.specs.World.{Rule, World, go, end_of}
 use Rattle.ob_meaning.proofs.FullCells.{all_set, full_eight, full_set, set_are}
 use Rattle.ob_meaning.proofs.Stores.{sizes_and_lives_stay}
-use Rattle.ob_meaning.proofs.Strays.{target_is}
+use Rattle.ob_meaning.proofs.Strays.{is_made, target_is}
 use Rattle.ob_meaning.specs.Values.{Cell, number_of, read_cell, write_cell}
 
 -- ---- numbers as bytes
@@ -81,13 +81,19 @@ in_granule ULong n h = omega arith
 in_granule LLong n h = omega arith
 in_granule ULLong n h = omega arith
 
-cell_back : (kind : LoadKind) (n : ℕ) (v : Value) (c : Cell) → has_eight c ≡ true → n % bytes_of_kind kind ≡ 0 → read_cell kind (pos n) (write_cell kind (pos n) v c) ≡ Some (as_stored kind v)
-cell_back (Num t) n v c eight aligned =
+-- what is written at an offset is read there, where it lies in one granule
+pub cell_back : (kind : LoadKind) (o : ℤ) (v : Value) (c : Cell) → has_eight c ≡ true → place_in_granule o + bytes_of_kind kind ≤ 8 → read_cell kind o (write_cell kind o v c) ≡ Some (as_stored kind v)
+cell_back (Num t) o v c eight fits =
     let k : ℕ = width t / 8 in
     let w : ℕ = word (number_of v) in
-    ap (option_map (λ m. value.Num (number t m))) (written_back k (n % 8) (low_bytes k w) c (length-low_bytes k w) eight (in_granule t n aligned))
+    ap (option_map (λ m. value.Num (number t m))) (written_back k (place_in_granule o) (low_bytes k w) c (length-low_bytes k w) eight fits)
     ∙ ap (λ z. Some (value.Num z)) (number_back t (number_of v))
-cell_back Ptr n v c eight aligned = refl
+cell_back Ptr o v c eight fits = refl
+
+-- an aligned access lies in one granule
+pub fits_granule : (kind : LoadKind) (n : ℕ) → n % bytes_of_kind kind ≡ 0 → n % 8 + bytes_of_kind kind ≤ 8
+fits_granule (Num t) n h = in_granule t n h
+fits_granule Ptr n h = let z : n % 8 ≡ 0 = h in omega arith
 
 some_bytes : (kind : LoadKind) → 0 < bytes_of_kind kind
 some_bytes (Num Char) = omega arith
@@ -104,17 +110,6 @@ some_bytes (Num ULLong) = omega arith
 some_bytes Ptr = omega arith
 
 -- ---- objects
-
--- an object that lives has been made
-is_made : (objects : List Object) (object : ℕ) → (object_at objects object).alive ≡ true → object < length objects
-is_made objects object h = by_test (nat_lt object (length objects)) refl
-  where
-    by_test : (b : Bool) → nat_lt object (length objects) ≡ b → object < length objects
-    by_test true t = grind (arith, nat_tests)
-    by_test false t =
-        let past : length objects ≤ object = grind (arith, nat_tests) in
-        let none : (object_at objects object).alive ≡ false = ap (λ (o : Object). o.alive) (get_or_past objects object no_object past) in
-        absurd (cc)
 
 pub full_at : (cells : List Cell) (i : ℕ) → All (λ cell. is_full cell ≡ true) cells → is_full (slice_index_or cells i zeros) ≡ true
 full_at [] i all = refl
@@ -138,22 +133,28 @@ abbrev inside_world : LoadKind → ℕ → ℤ → Value → World → World
 inside_world kind object o v w =
     record w { objects = with_own_cell w.objects object (granule o) (write_cell kind o v (own_cell w.objects object (granule o))) }
 
-inside_target : (rule : Rule) (w : World) (object : ℕ) (offset d : ℤ) (kind : LoadKind) → Reaches w object offset d → is_stray (object_at w.objects object).size (offset +ℤ d) (bytes_of_kind kind) ≡ false → target rule w.objects (value.Ptr object offset) d (bytes_of_kind kind) ≡ at object (offset +ℤ d) reaches.inside
+pub inside_target : (rule : Rule) (w : World) (object : ℕ) (offset d : ℤ) (kind : LoadKind) → Reaches w object offset d → is_astray kind (object_at w.objects object) (offset +ℤ d) ≡ false → target rule w.objects (value.Ptr object offset) d (bytes_of_kind kind) ≡ at object (offset +ℤ d) reaches.inside
 inside_target rule w object offset d kind h near =
+    let o : Object = object_at w.objects object in
     target_is rule w object offset d (bytes_of_kind kind) h
-    ∙ ap (at object (offset +ℤ d)) (others_inside (keeps rule) (object_at w.objects object).size (offset +ℤ d) (bytes_of_kind kind) near)
+    ∙ ap (at object (offset +ℤ d)) (others_inside (keeps rule) (is_freed o.state) o.size (offset +ℤ d) (bytes_of_kind kind) near)
 
 -- the offset of an access inside of its object
-load_back : (cycle : List ℕ) (kind : LoadKind) (object : ℕ) (o : ℤ) (v : Value) (w : World) → (object_at w.objects object).alive ≡ true → IsWhole (object_at w.objects object) → (unsigned_abs o % bytes_of_kind kind ≡ 0) × IsInside (object_at w.objects object).size o (bytes_of_kind kind) → load_own cycle kind object o (inside_world kind object o v w) ≡ go (as_stored kind v) (inside_world kind object o v w)
-load_back cycle kind object (negsuc n) v w alive whole near = absurd (omega (arith, ints, near.1.0))
-load_back cycle kind object (pos n) v w alive whole near =
+load_back : (cycle : List ℕ) (kind : LoadKind) (object : ℕ) (o : ℤ) (v : Value) (w : World) → is_dead_state (object_at w.objects object).state ≡ false → IsWhole (object_at w.objects object) → (unsigned_abs o % bytes_of_kind kind ≡ 0) × IsInside (object_at w.objects object).size o (bytes_of_kind kind) → load_own cycle kind object o (inside_world kind object o v w) ≡ go (as_stored kind v) (inside_world kind object o v w)
+load_back cycle kind object (negsuc n) v w known whole near = absurd (omega (arith, ints, near.1.0))
+load_back cycle kind object (pos n) v w known whole near =
     let c : Cell = own_cell w.objects object (pos (n / 8)) in
     let some : 0 < bytes_of_kind kind = some_bytes kind in
     let end : n + bytes_of_kind kind ≤ (object_at w.objects object).size = omega (arith, ints, near.1.1) in
     let within : n / 8 < length (object_at w.objects object).own = rw whole.granules (omega (arith, end, some)) in
-    let back = own_back w.objects object (n / 8) (write_cell kind (pos n) v c) (is_made w.objects object alive) within in
+    let back = own_back w.objects object (n / 8) (write_cell kind (pos n) v c) (is_made w.objects object known) within in
     ap (λ (x : Cell). or_made (read_cell kind (pos n) x) cycle kind (inside_world kind object (pos n) v w)) back
-    ∙ ap (λ (x : Option Value). or_made x cycle kind (inside_world kind object (pos n) v w)) (cell_back kind n v c (full_eight c (full_at (object_at w.objects object).own (n / 8) whole.full)) near.0)
+    ∙ ap (λ (x : Option Value). or_made x cycle kind (inside_world kind object (pos n) v w)) (cell_back kind (pos n) v c (full_eight c (full_at (object_at w.objects object).own (n / 8) whole.full)) (fits_granule kind n near.0))
+
+astray_parts : (kind : LoadKind) (x : Object) (o : ℤ) → is_astray kind x o ≡ false → (unsigned_abs o % bytes_of_kind kind ≡ 0) × IsInside x.size o (bytes_of_kind kind)
+astray_parts kind x o near =
+    let parts = (strays_are_others (is_freed x.state) x.size o (bytes_of_kind kind)).0 near in
+    (parts.1, parts.2)
 
 pub stored_is_loaded : StoredIsLoaded
 stored_is_loaded rule cycle kind line object offset d v w h whole near =
@@ -161,10 +162,10 @@ stored_is_loaded rule cycle kind line object offset d v w h whole near =
     let after : World = inside_world kind object o v w in
     let is : stored rule kind line (value.Ptr object offset) d v w ≡ after = ap (λ (t : Target). end_of (store_at t rule kind line v w)) (inside_target rule w object offset d kind h near) in
     let lives = sizes_and_lives_stay rule kind line object (value.Ptr object offset) v d w in
-    let lives_after = subst (λ (x : World). ((object_at x.objects object).size ≡ (object_at w.objects object).size) × ((object_at x.objects object).alive ≡ (object_at w.objects object).alive)) is lives in
-    let reaches_after : Reaches after object offset d = record { alive = lives_after.1 ∙ h.alive; near = h.near; near_offset = h.near_offset } in
-    let near_after : is_stray (object_at after.objects object).size o (bytes_of_kind kind) ≡ false = ap (λ (n : ℕ). is_stray n o (bytes_of_kind kind)) lives_after.0 ∙ near in
-    subst (IsBack rule cycle kind line object offset d v) (sym is) (ap (λ (t : Target). load_at t rule cycle kind line after) (inside_target rule after object offset d kind reaches_after near_after) ∙ load_back cycle kind object o v w h.alive whole ((strays_are_others (object_at w.objects object).size o (bytes_of_kind kind)).0 near))
+    let lives_after = subst (λ (x : World). ((object_at x.objects object).size ≡ (object_at w.objects object).size) × ((object_at x.objects object).state ≡ (object_at w.objects object).state)) is lives in
+    let reaches_after : Reaches after object offset d = record { known = ap is_dead_state lives_after.1 ∙ h.known; near = h.near; near_offset = h.near_offset } in
+    let near_after : is_astray kind (object_at after.objects object) o ≡ false = ap (λ (n : ℕ). is_stray (is_freed (object_at after.objects object).state) n o (bytes_of_kind kind)) lives_after.0 ∙ ap (λ (s : ObjectState). is_stray (is_freed s) (object_at w.objects object).size o (bytes_of_kind kind)) lives_after.1 ∙ near in
+    subst (IsBack rule cycle kind line object offset d v) (sym is) (ap (λ (t : Target). load_at t rule cycle kind line after) (inside_target rule after object offset d kind reaches_after near_after) ∙ load_back cycle kind object o v w h.known whole (astray_parts kind (object_at w.objects object) o near))
 
 -- ---- what a full granule gives
 
@@ -177,7 +178,7 @@ some_number k place es h =
     taken : (k place : ℕ) (zs : List ℕ) → take k (drop place (map Some zs)) ≡ map Some (take k (drop place zs))
     taken k place zs = simp (take-map, drop-map)
 
-full_read : (kind : LoadKind) (o : ℤ) (c : Cell) → is_full c ≡ true → (v : Value) × (read_cell kind o c ≡ Some v)
+pub full_read : (kind : LoadKind) (o : ℤ) (c : Cell) → is_full c ≡ true → (v : Value) × (read_cell kind o c ≡ Some v)
 full_read (Num t) o (pointer p) h = (value.Num (number t 0), refl)
 full_read (Num t) o (bytes es) h =
     let n = some_number (width t / 8) (place_in_granule o) es (full_set es h) in

@@ -35,7 +35,7 @@ module _ (u : Setup) (r s : Rule) (k : KeptByActs u r s) where
   choose_acts false f g h i x y = y
 
   far_acts : {A : Type 0} (b : Bool) (f g : World → Run A) → k.Acts f g → k.Acts (λ w. if b then stop (plain Far) w else f w) (λ w. if b then stop (plain Far) w else g w)
-  far_acts true f g x = k.stops Far
+  far_acts true f g x = k.stops Far tt
   far_acts false f g x = x
 
   pub formed_acts : {A : Type 0} (d : ℤ) (f g : ℤ → World → Run A) → ((e : ℤ) → k.Acts (f e) (g e)) → k.Acts (λ w. formed d w f) (λ w. formed d w g)
@@ -43,7 +43,7 @@ module _ (u : Setup) (r s : Rule) (k : KeptByActs u r s) where
 
   computed_acts : (x : Result ℤ DivideByZero) → k.Acts (computed x) (computed x)
   computed_acts (Ok n) = k.goes (value_of.Num n)
-  computed_acts (Err e) = k.stops Divide
+  computed_acts (Err e) = k.stops Divide tt
 
   arithmetic_acts : (op : BinOp) (t : IntType) (x y : Value) → k.Acts (arithmetic op t x y) (arithmetic op t x y)
   arithmetic_acts op t x y = computed_acts (binary op t (number_of (converted t x)) (number_of (right_operand (shifts op) t y)))
@@ -77,7 +77,7 @@ module _ (u : Setup) (r s : Rule) (k : KeptByActs u r s) where
   built_in_acts line builtin.Calloc vs =
       k.allocates (byte_count (argument vs 0) * byte_count (argument vs 1))
   built_in_acts line builtin.Free vs = k.frees line (argument vs 0)
-  built_in_acts line builtin.Exit vs = k.stops (Ended (convert Int (number_of (argument vs 0))))
+  built_in_acts line builtin.Exit vs = k.stops (Ended (convert Int (number_of (argument vs 0)))) tt
 
   -- the meanings of calls and turns after a step
   pub record BelowActs (m n : Below) : Type 0 where

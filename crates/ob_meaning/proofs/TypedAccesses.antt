@@ -11,7 +11,7 @@ use Rattle.ob_model.specs.declared.values.LoadKind.{LoadKind}
 use Rattle.ob_model.specs.declared.values.LoadKind.TheVariants.{Num, Ptr}
 use Rattle.ob_model.specs.declared.values.Value.{Value}
 use Rattle.ob_model.specs.declared.values.Value.TheVariants as value
-use Rattle.ob_model.specs.Accesses.{Reach, bytes_of_kind, granule, is_far, is_inside, place_in_granule}
+use Rattle.ob_model.specs.Accesses.{Reach, bytes_of_kind, granule, is_far, is_inside, place_in_granule, stray_event}
 use Rattle.ob_model.specs.Accesses as reaches
 use Rattle.ob_model.specs.Bounded.{Listed, after_load, is_of, listed_cell, moved_to_front, put_first, without_granule}
 use Rattle.ob_model.specs.Cells.{bytes, pointer, read_number, set_bytes, unset, written, zeros}
@@ -25,7 +25,7 @@ use Rattle.ob_meaning.specs.Setup.{kind_of}
 use Rattle.ob_meaning.specs.Values.{Cell, made_value, nothing, number_of, read_cell, write_cell}
 use Rattle.ob_meaning.specs.ValueTypes.{Class, GivesIn, HasClass, HoldsPointers, IsScalar, IsTypedWorld, class_of, none}
 use Rattle.ob_meaning.specs.ValueTypes as class
-use Rattle.ob_meaning.specs.World.{Rule, vanish, kept, unlimited, World, Call, stop, go, stray_event, told}
+use Rattle.ob_meaning.specs.World.{Rule, vanish, kept, unlimited, World, Call, stop, go, told}
 use Rattle.ob_meaning.proofs.OutsideLists.{cell_in, listed_is}
 use Rattle.ob_meaning.proofs.TypedActs.{OfKind, Typed, gives_if}
 

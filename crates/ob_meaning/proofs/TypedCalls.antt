@@ -16,9 +16,11 @@ use Rattle.ob_tree.specs.Types.{PlainType, PlainStructs}
 use Rattle.ob_tree.specs.Types.PlainType.{Void, Int, Pointer, Array, Struct}
 use Rattle.ob_typed.specs.declared.statics.StaticPointer.{StaticPointer}
 use Rattle.ob_typed.specs.TypedTree.{TypedObject}
-use Rattle.ob_meaning.specs.Calls.{allowance_of, allowances, automatic, automatics, below, called, entered, left, left_to, null_of, result_of, returned, stack_bytes}
+use Rattle.ob_model.specs.Limits.{stack_bytes}
+use Rattle.ob_meaning.specs.Calls.{allowance_of, allowances, automatic, automatics, below, called, entered, left, left_to, null_of, result_of, returned}
 use Rattle.ob_meaning.specs.Expressions.{choose}
-use Rattle.ob_meaning.specs.Memory.{Object, is_among, next_number, no_object, with_own}
+use Rattle.ob_model.specs.Objects.{is_among}
+use Rattle.ob_meaning.specs.Memory.{Object, next_number, no_object, with_own}
 use Rattle.ob_meaning.specs.Runs.{first_granule, granules_of, static_object, with_pointers}
 use Rattle.ob_meaning.specs.Setup.{Below, Flow, next, broke, continued, gave, Setup, function_at, kind_of}
 use Rattle.ob_meaning.specs.Statements.{exec}

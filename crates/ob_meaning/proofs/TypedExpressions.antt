@@ -94,7 +94,7 @@ module _ (u : Setup) (calls : List Call) where
   typed_built_in line builtin.Malloc vs = typed_allocated calls u.settings.heap (byte_count (argument vs 0))
   typed_built_in line builtin.Calloc vs =
       typed_allocated calls u.settings.heap (byte_count (argument vs 0) * byte_count (argument vs 1))
-  typed_built_in line builtin.Free vs = typed_free calls line (argument vs 0)
+  typed_built_in line builtin.Free vs = typed_free calls u.settings.profile line (argument vs 0)
   typed_built_in line builtin.Exit vs = typed_stop calls Any (Ended (convert type.Int (number_of (argument vs 0))))
 
   older_is : (post : Bool) (c : Class) (old new : Value) → HasClass c old → HasClass c new → HasClass c (older_if post old new)

@@ -1,6 +1,5 @@
 -- Moves, comparisons, the heap, input and output give values of their types.
-use Rattle.std.proofs.Common.{ℕ, ◌+◌, ◌%◌, ◌==◌, ◌&&◌, Bool, true, false, not, nat_lt, ℤ, pos, negsuc, ◌+ℤ◌, List, [], ◌∷◌, length, Option, Some, None, if◌then◌else◌, All, arith}
-use Rattle.std.specs.Ordering.{int_eq}
+use Rattle.std.proofs.Common.{ℕ, ◌+◌, ◌%◌, ◌==◌, Bool, true, false, not, nat_lt, ℤ, negsuc, List, [], ◌∷◌, length, Option, Some, None, if◌then◌else◌, All, arith}
 use Rattle.std.proofs.lemmas.Int.{ints}
 use Rattle.std.proofs.lemmas.Nat.{mod_below}
 use Rattle.std.proofs.lemmas.List.Elements.{All-append, All-cons, All-filter, All-head, All-nil, All-replicate, All-tail}
@@ -15,19 +14,23 @@ use Rattle.ob_model.specs.declared.objects.Sort.TheVariants.{Heap}
 use Rattle.ob_model.specs.declared.strays.Act.TheVariants as act
 use Rattle.ob_model.specs.declared.values.Value.{Value}
 use Rattle.ob_model.specs.declared.values.Value.TheVariants as value
-use Rattle.ob_model.specs.Accesses.{is_far, is_inside}
+use Rattle.ob_model.specs.Accesses.{is_far, stray_event}
 use Rattle.ob_model.specs.Bounded.{Listed}
 use Rattle.ob_model.specs.Cells.{zeros}
 use Rattle.ob_model.specs.Descriptors.{Pair}
 use Rattle.ob_model.specs.Endings.{InputEnd, closed, failed, plain, dead}
 use Rattle.ob_model.specs.Heap.{place_for}
-use Rattle.ob_meaning.specs.Heap.{allocated, allocated_at, free, freed, is_heap, read_byte, write_byte}
-use Rattle.ob_meaning.specs.Memory.{Object, dead_if, is_dead, new_object, object_at, with_deaths}
-use Rattle.ob_meaning.specs.Pointers.{compared, difference, is_listed, listed, move, moved_by, moved_to, one_is_dead, pointers_compare, subtracted, uses_dead}
+use Rattle.ob_model.specs.Objects.{ObjectState, freed, dead as dead_state}
+use Rattle.ob_model.specs.Pointers.{Moved, stays_null, too_far, in_bounds, out_of_bounds, difference, moved_by, pointers_compare}
+use Rattle.ob_model.specs.declared.settings.Profile.{Profile}
+use Rattle.ob_model.specs.declared.settings.Profile.TheVariants.{One, Two}
+use Rattle.ob_meaning.specs.Heap.{allocated, allocated_at, free, free_known, freed_under, frees_it, read_byte, write_byte}
+use Rattle.ob_meaning.specs.Memory.{Object, changed_if, is_dead, new_object, object_at, with_state}
+use Rattle.ob_meaning.specs.Pointers.{compared, is_listed, listed, move, moved, one_is_dead, size_at, subtracted, uses_dead}
 use Rattle.ob_meaning.specs.Values.{Cell, nothing, number_of, truth}
 use Rattle.ob_meaning.specs.ValueTypes.{Class, GivesIn, HasClass, HoldsPointers, IsScalar, IsTypedWorld, class_of, none}
 use Rattle.ob_meaning.specs.ValueTypes as class
-use Rattle.ob_meaning.specs.World.{World, Call, stop, go, stray_event, told, without}
+use Rattle.ob_meaning.specs.World.{World, Call, stop, go, told, without}
 use Rattle.ob_meaning.proofs.TypedActs.{Typed, gives_if, small_number, truth_is}
 use Rattle.ob_meaning.proofs.TypedAccesses.{Any, HoldsOwn}
 
@@ -42,17 +45,18 @@ listed_gives calls away pair w ok =
     let more : World = record w { out_of_bounds = pair ∷ w.out_of_bounds } in
     gives_if calls IsPointer (is_listed pair w.out_of_bounds) (go at w) (if nat_lt (length w.out_of_bounds) away then go at more else stop (plain Descriptors) w) (tt, ok) (gives_if calls IsPointer (nat_lt (length w.out_of_bounds) away) (go at more) (stop (plain Descriptors) w) (tt, ok) tt)
 
-moved_gives : (calls : List Call) (away : ℕ) (p : Value) (d : ℤ) (w : World) → IsTypedWorld calls w → GivesIn calls IsPointer (moved_by away p d w)
-moved_gives calls away (value.Ptr object offset) d w ok =
-    gives_if calls IsPointer (is_far (offset +ℤ d)) (stop (plain Far) w) (moved_to away object (offset +ℤ d) w) tt (gives_if calls IsPointer (is_inside (object_at w.objects object).size (offset +ℤ d) 0) (go (value.Ptr object (offset +ℤ d)) w) (listed away (object, offset +ℤ d) w) (tt, ok) (listed_gives calls away (object, offset +ℤ d) w ok))
-moved_gives calls away value.Null d w ok = (tt, ok)
-moved_gives calls away (value.Num n) d w ok = (tt, ok)
+moved_gives : (calls : List Call) (away : ℕ) (m : Moved) (w : World) → IsTypedWorld calls w → GivesIn calls IsPointer (moved away m w)
+moved_gives calls away stays_null w ok = (tt, ok)
+moved_gives calls away too_far w ok = tt
+moved_gives calls away (in_bounds object offset) w ok = (tt, ok)
+moved_gives calls away (out_of_bounds object offset) w ok = listed_gives calls away (object, offset) w ok
 
 pub typed_move : (calls : List Call) (away line : ℕ) (p : Value) (d : ℤ) → Typed calls IsPointer (move away line p d)
 typed_move calls away line p d =
     record {
       each = λ w ok.
-          gives_if calls IsPointer (is_dead w.objects p) (stop (dead line) w) (if is_far d then stop (plain Far) w else moved_by away p d w) tt (gives_if calls IsPointer (is_far d) (stop (plain Far) w) (moved_by away p d w) tt (moved_gives calls away p d w ok));
+          let m : Moved = moved_by (size_at w.objects p) p d in
+          gives_if calls IsPointer (is_dead w.objects p) (stop (dead line) w) (if is_far d then stop (plain Far) w else moved away m w) tt (gives_if calls IsPointer (is_far d) (stop (plain Far) w) (moved away m w) tt (moved_gives calls away m w ok));
     }
 
 -- ---- comparisons
@@ -84,32 +88,38 @@ allocated_gives calls (Some place) n w ok =
 pub typed_allocated : (calls : List Call) (heap n : ℕ) → Typed calls IsPointer (allocated heap n)
 typed_allocated calls heap n = record { each = λ w ok. allocated_gives calls (place_for w.heap heap n) n w ok }
 
-dead_holds : (b : Bool) (o : Object) → HoldsOwn o → HoldsOwn (dead_if b o)
-dead_holds true o h = h
-dead_holds false o h = h
+changed_holds : (b : Bool) (state : ObjectState) (o : Object) → HoldsOwn o → HoldsOwn (changed_if b state o)
+changed_holds true state o h = h
+changed_holds false state o h = h
 
-deaths_hold : (dies : ℕ → Bool) (n : ℕ) (os : List Object) → All HoldsOwn os → All HoldsOwn (with_deaths dies n os)
-deaths_hold dies n [] all = All-nil HoldsOwn
-deaths_hold dies n (o ∷ os) all =
-    All-cons HoldsOwn (dead_if (dies n) o) (with_deaths dies (n + 1) os) (dead_holds (dies n) o (All-head HoldsOwn o os all)) (deaths_hold dies (n + 1) os (All-tail HoldsOwn o os all))
+states_hold : (state : ObjectState) (named : ℕ → Bool) (n : ℕ) (os : List Object) → All HoldsOwn os → All HoldsOwn (with_state state named n os)
+states_hold state named n [] all = All-nil HoldsOwn
+states_hold state named n (o ∷ os) all =
+    All-cons HoldsOwn (changed_if (named n) state o) (with_state state named (n + 1) os) (changed_holds (named n) state o (All-head HoldsOwn o os all)) (states_hold state named (n + 1) os (All-tail HoldsOwn o os all))
 
 abbrev HoldsListed : Listed Cell → Type 0
 HoldsListed e = HoldsPointers e.cell
 
 pub without_ok : (calls : List Call) (dies : ℕ → Bool) (w : World) → IsTypedWorld calls w → IsTypedWorld calls (without dies w)
 without_ok calls dies w ok =
-    (deaths_hold dies 0 w.objects ok.0, All-filter (λ e. not (dies e.object)) HoldsListed w.outside ok.1, ok.2)
+    (states_hold dead_state dies 0 w.objects ok.0, All-filter (λ e. not (dies e.object)) HoldsListed w.outside ok.1, ok.2)
 
-freed_gives : (calls : List Call) (line : ℕ) (p : Value) (w : World) → IsTypedWorld calls w → GivesIn calls Any (freed line p w)
-freed_gives calls line (value.Num n) w ok = (tt, ok)
-freed_gives calls line value.Null w ok = (tt, ok)
-freed_gives calls line (value.Ptr object offset) w ok =
-    gives_if calls Any (is_heap (object_at w.objects object).sort && int_eq offset (pos 0)) (go nothing (without (λ other. other == object) w)) (go nothing (told (stray_event line act.Free object offset 0) w)) (tt, without_ok calls (λ other. other == object) w ok) (tt, ok)
+freed_ok : (calls : List Call) (profile : Profile) (object : ℕ) (w : World) → IsTypedWorld calls w → IsTypedWorld calls (freed_under profile object w)
+freed_ok calls One object w ok = without_ok calls (λ other. other == object) w ok
+freed_ok calls Two object w ok =
+    (states_hold freed (λ other. other == object) 0 w.objects ok.0, All-filter (λ e. not (e.object == object)) HoldsListed w.outside ok.1, ok.2)
 
-pub typed_free : (calls : List Call) (line : ℕ) (p : Value) → Typed calls Any (free line p)
-typed_free calls line p =
+known_gives : (calls : List Call) (profile : Profile) (line : ℕ) (p : Value) (w : World) → IsTypedWorld calls w → GivesIn calls Any (free_known profile line p w)
+known_gives calls profile line (value.Num n) w ok = (tt, ok)
+known_gives calls profile line value.Null w ok = (tt, ok)
+known_gives calls profile line (value.Ptr object offset) w ok =
+    gives_if calls Any (frees_it (object_at w.objects object) offset) (go nothing (freed_under profile object w)) (go nothing (told (stray_event line act.Free object offset 0) w)) (tt, freed_ok calls profile object w ok) (tt, ok)
+
+pub typed_free : (calls : List Call) (profile : Profile) (line : ℕ) (p : Value) → Typed calls Any (free profile line p)
+typed_free calls profile line p =
     record {
-      each = λ w ok. gives_if calls Any (is_dead w.objects p) (stop (dead line) w) (freed line p w) tt (freed_gives calls line p w ok);
+      each = λ w ok.
+          gives_if calls Any (is_dead w.objects p) (stop (dead line) w) (free_known profile line p w) tt (known_gives calls profile line p w ok);
     }
 
 -- ---- input and output

@@ -5,7 +5,8 @@ use Rattle.ob_model.specs.declared.values.Value.{Value}
 use Rattle.ob_model.specs.Endings.{plain}
 use Rattle.ob_tree.specs.Types.{PlainType}
 use Rattle.ob_tree.specs.Types.PlainType.{Void, Int, Pointer, Array, Struct}
-use Rattle.ob_meaning.specs.Calls.{allowance_of, allowances, below, entered, left_to, stack_bytes}
+use Rattle.ob_model.specs.Limits.{stack_bytes}
+use Rattle.ob_meaning.specs.Calls.{allowance_of, allowances, below, entered, left_to}
 use Rattle.ob_meaning.specs.Expressions.{choose}
 use Rattle.ob_meaning.specs.Initialisers.{cleared, local_type}
 use Rattle.ob_meaning.specs.Runs.{finish_of, first_world, run}
@@ -65,7 +66,7 @@ no_drop_acts u =
       Fewer = First;
       fewer = λ f g s. s;
       goes = λ a. record { each = λ w. refl };
-      stops = λ e. record { each = λ w. (tt, refl) };
+      stops = λ e own. record { each = λ w. (tt, refl) };
       binds = λ f g k l s each. record { each = λ w. binds_no_drop w (f w) k (s.each w) each };
       fewer_binds = λ f g k l s each. record { each = λ w. binds_no_drop w (f w) k (s.each w) each };
       steps = λ f g s. record { each = λ w. steps_no_drop w.left w f s };
@@ -75,7 +76,7 @@ no_drop_acts u =
       compares = λ r line p q. record { each = λ w. of_quiet w _ (quiet_compared r line p q w) };
       subtracts = λ size line p q. record { each = λ w. of_quiet w _ (quiet_subtracted size line p q w) };
       allocates = λ n. record { each = λ w. of_quiet w _ (quiet_allocated u.settings.heap n w) };
-      frees = λ line p. record { each = λ w. of_quiet w _ (quiet_free line p w) };
+      frees = λ line p. record { each = λ w. of_quiet w _ (quiet_free u.settings.profile line p w) };
       reads = record { each = λ w. of_quiet w _ (quiet_read u.input_end w.input w) };
       writes = λ v. record { each = λ w. refl };
       locals = λ i. record { each = λ w. refl };

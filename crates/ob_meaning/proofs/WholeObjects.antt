@@ -1,5 +1,5 @@
 -- Objects are made whole, and stores leave them whole.
-use Rattle.std.proofs.Common.{◌≡◌, ℕ, zero, suc, ◌+◌, ◌/◌, ◌%◌, ◌≤◌, inl, inr, ◌&&◌, Bool, true, false, not, ℤ, pos, negsuc, ◌+ℤ◌, unsigned_abs, List, [], ◌∷◌, ◌++◌, length, take, drop, replicate, slice_set, if◌then◌else◌, arith, refl, sym, subst, ◌∙◌, ap, All}
+use Rattle.std.proofs.Common.{◌≡◌, ℕ, zero, suc, ◌+◌, ◌/◌, ◌%◌, ◌≤◌, inl, inr, ◌&&◌, ◌||◌, Bool, true, false, not, ℤ, pos, negsuc, ◌+ℤ◌, unsigned_abs, List, [], ◌∷◌, ◌++◌, length, take, drop, replicate, slice_set, if◌then◌else◌, arith, refl, sym, subst, ◌∙◌, ap, All}
 use Rattle.std.proofs.lemmas.Bool.Decides.{nat_tests}
 use Rattle.std.proofs.lemmas.List.{length-replicate, length-set, length-take-le}
 use Rattle.std.proofs.Common.{length-append}
@@ -11,23 +11,24 @@ use Rattle.ob_model.specs.declared.values.LoadKind.{LoadKind}
 use Rattle.ob_model.specs.declared.values.LoadKind.TheVariants.{Num, Ptr}
 use Rattle.ob_model.specs.declared.values.Value.{Value}
 use Rattle.ob_model.specs.declared.values.Value.TheVariants as value
-use Rattle.ob_model.specs.Accesses.{Reach, bytes_of_kind, granule, is_aligned, is_far, is_inside, is_own, own_granules, reach, reach_if, stray_reach}
+use Rattle.ob_model.specs.Accesses.{Reach, bytes_of_kind, granule, is_aligned, is_far, is_inside, is_own, own_granules, reach_if, stray_reach}
 use Rattle.ob_model.specs.Accesses as reaches
 use Rattle.ob_model.specs.Cells.{pointer, zeros}
+use Rattle.ob_model.specs.Objects.{ObjectState, is_freed}
 use Rattle.ob_tree.specs.Sizes.{size}
 use Rattle.ob_tree.specs.Types.{PlainType, PlainStructs}
 use Rattle.ob_typed.specs.declared.statics.StaticPointer.{StaticPointer}
 use Rattle.ob_typed.specs.TypedTree.{TypedObject}
-use Rattle.ob_meaning.specs.Accesses.{at, keeps, store, store_at, too_far}
+use Rattle.ob_meaning.specs.Accesses.{at, keeps, reach_in, store, store_at, too_far}
 use Rattle.ob_meaning.specs.Calls.{automatic, automatics}
-use Rattle.ob_meaning.specs.Memory.{Object, dead_if, new_object, no_object, object_at, own_cell, with_deaths, with_own, with_own_cell, wiped}
+use Rattle.ob_meaning.specs.Memory.{Object, changed_if, new_object, no_object, object_at, own_cell, with_own, with_own_cell, with_state, wiped}
 use Rattle.ob_meaning.specs.MemoryLaws.{IsWhole, is_full}
 use Rattle.ob_meaning.specs.Runs.{first_granule, granules_of, static_object, with_pointers}
 use Rattle.ob_meaning.specs.Setup.{kind_of}
 use Rattle.ob_meaning.specs.Values.{Cell, write_cell}
 use Rattle.ob_meaning.specs.World.{Rule, World, end_of}
 use Rattle.ob_meaning.proofs.FullCells.{all_full, write_full}
-use Rattle.ob_meaning.proofs.ReadBack.{full_at, in_granule}
+use Rattle.ob_meaning.proofs.ReadBack.{fits_granule, full_at}
 use Rattle.ob_meaning.proofs.Stores.{by_target, negative_outside, put_objects}
 
 abbrev pub AreWhole : List Object → Type 0
@@ -62,14 +63,14 @@ whole_wiped o = record { granules = length-replicate _ zeros; full = All-replica
 pub whole_set : (objects : List Object) (i : ℕ) (o : Object) → AreWhole objects → IsWhole o → AreWhole (slice_set objects i o)
 whole_set objects i o all h = All-set IsWhole objects i o h all
 
-whole_dead : (dies : Bool) (o : Object) → IsWhole o → IsWhole (dead_if dies o)
-whole_dead true o h = record { granules = h.granules; full = h.full }
-whole_dead false o h = h
+whole_changed : (named : Bool) (state : ObjectState) (o : Object) → IsWhole o → IsWhole (changed_if named state o)
+whole_changed true state o h = record { granules = h.granules; full = h.full }
+whole_changed false state o h = h
 
-pub whole_deaths : (dies : ℕ → Bool) (n : ℕ) (os : List Object) → AreWhole os → AreWhole (with_deaths dies n os)
-whole_deaths dies n [] all = All-nil IsWhole
-whole_deaths dies n (o ∷ os) all =
-    All-cons IsWhole (dead_if (dies n) o) (with_deaths dies (n + 1) os) (whole_dead (dies n) o (All-head IsWhole o os all)) (whole_deaths dies (n + 1) os (All-tail IsWhole o os all))
+pub whole_states : (state : ObjectState) (named : ℕ → Bool) (n : ℕ) (os : List Object) → AreWhole os → AreWhole (with_state state named n os)
+whole_states state named n [] all = All-nil IsWhole
+whole_states state named n (o ∷ os) all =
+    All-cons IsWhole (changed_if (named n) state o) (with_state state named (n + 1) os) (whole_changed (named n) state o (All-head IsWhole o os all)) (whole_states state named (n + 1) os (All-tail IsWhole o os all))
 
 -- ---- automatic and static objects
 
@@ -130,19 +131,22 @@ whole_static structs o =
 -- ---- stores
 
 -- an access that reaches a granule of the object's own is aligned
-aligned_inside : (keeps aligned inside own : Bool) → reach_if (not (aligned && inside)) (stray_reach (keeps && aligned) own) ≡ reaches.inside → aligned ≡ true
-aligned_inside keeps true inside own h = refl
-aligned_inside true false inside own h = absurd (cc)
-aligned_inside false false inside own h = absurd (cc)
+aligned_inside : (freed keeps aligned inside own : Bool) → reach_if (freed || not (aligned && inside)) (stray_reach (keeps && (not freed && aligned)) own) ≡ reaches.inside → aligned ≡ true
+aligned_inside freed keeps true inside own h = refl
+aligned_inside true true false inside own h = absurd (cc)
+aligned_inside true false false inside own h = absurd (cc)
+aligned_inside false true false inside own h = absurd (cc)
+aligned_inside false false false inside own h = absurd (cc)
 
-aligned_own : (keeps aligned inside own : Bool) → reach_if (not (aligned && inside)) (stray_reach (keeps && aligned) own) ≡ reaches.own → aligned ≡ true
-aligned_own keeps true inside own h = refl
-aligned_own true false inside own h = absurd (cc)
-aligned_own false false inside own h = absurd (cc)
+aligned_own : (freed keeps aligned inside own : Bool) → reach_if (freed || not (aligned && inside)) (stray_reach (keeps && (not freed && aligned)) own) ≡ reaches.own → aligned ≡ true
+aligned_own freed keeps true inside own h = refl
+aligned_own true true false inside own h = absurd (cc)
+aligned_own true false false inside own h = absurd (cc)
+aligned_own false true false inside own h = absurd (cc)
+aligned_own false false false inside own h = absurd (cc)
 
-fits_granule : (kind : LoadKind) (n : ℕ) → is_aligned (pos n) (bytes_of_kind kind) ≡ true → n % 8 + bytes_of_kind kind ≤ 8
-fits_granule (Num t) n h = in_granule t n (grind (arith, nat_tests))
-fits_granule Ptr n h = let z : n % 8 ≡ 0 = grind (arith, nat_tests) in omega arith
+fits_own : (kind : LoadKind) (n : ℕ) → is_aligned (pos n) (bytes_of_kind kind) ≡ true → n % 8 + bytes_of_kind kind ≤ 8
+fits_own kind n h = fits_granule kind n (grind (arith, nat_tests))
 
 store_cell : (kind : LoadKind) (n : ℕ) (v : Value) (w : World) (object : ℕ) → AreWhole w.objects → is_aligned (pos n) (bytes_of_kind kind) ≡ true → AreWhole (with_own_cell w.objects object (granule (pos n)) (write_cell kind (pos n) v (own_cell w.objects object (granule (pos n)))))
 store_cell kind n v w object all aligned =
@@ -150,17 +154,17 @@ store_cell kind n v w object all aligned =
     let whole : IsWhole o = whole_at w.objects object all in
     let c : Cell = own_cell w.objects object (granule (pos n)) in
     let full : is_full c ≡ true = full_at o.own (n / 8) whole.full in
-    whole_set w.objects object (with_own o (granule (pos n)) (write_cell kind (pos n) v c)) all (whole_with o (granule (pos n)) (write_cell kind (pos n) v c) whole (write_full kind (pos n) v c full (fits_granule kind n aligned)))
+    whole_set w.objects object (with_own o (granule (pos n)) (write_cell kind (pos n) v c)) all (whole_with o (granule (pos n)) (write_cell kind (pos n) v c) whole (write_full kind (pos n) v c full (fits_own kind n aligned)))
 
-store_reach : (rule : Rule) (kind : LoadKind) (line object : ℕ) (o : ℤ) (r : Reach) (v : Value) (w : World) → r ≡ reach (keeps rule) (object_at w.objects object).size o (bytes_of_kind kind) → AreWhole w.objects → AreWhole (end_of (store_at (at object o r) rule kind line v w)).objects
+store_reach : (rule : Rule) (kind : LoadKind) (line object : ℕ) (o : ℤ) (r : Reach) (v : Value) (w : World) → r ≡ reach_in rule (object_at w.objects object) o (bytes_of_kind kind) → AreWhole w.objects → AreWhole (end_of (store_at (at object o r) rule kind line v w)).objects
 store_reach rule kind line object (pos n) reaches.inside v w is all =
-    store_cell kind n v w object all (aligned_inside (keeps rule) (is_aligned (pos n) (bytes_of_kind kind)) (is_inside (object_at w.objects object).size (pos n) (bytes_of_kind kind)) (is_own (object_at w.objects object).size (pos n)) (sym is))
+    store_cell kind n v w object all (aligned_inside (is_freed (object_at w.objects object).state) (keeps rule) (is_aligned (pos n) (bytes_of_kind kind)) (is_inside (object_at w.objects object).size (pos n) (bytes_of_kind kind)) (is_own (object_at w.objects object).size (pos n)) (sym is))
 store_reach rule kind line object (pos n) reaches.own v w is all =
-    store_cell kind n v w object all (aligned_own (keeps rule) (is_aligned (pos n) (bytes_of_kind kind)) (is_inside (object_at w.objects object).size (pos n) (bytes_of_kind kind)) (is_own (object_at w.objects object).size (pos n)) (sym is))
+    store_cell kind n v w object all (aligned_own (is_freed (object_at w.objects object).state) (keeps rule) (is_aligned (pos n) (bytes_of_kind kind)) (is_inside (object_at w.objects object).size (pos n) (bytes_of_kind kind)) (is_own (object_at w.objects object).size (pos n)) (sym is))
 store_reach rule kind line object (negsuc n) reaches.inside v w is all =
-    absurd (elim (negative_outside (is_aligned (negsuc n) (bytes_of_kind kind)) (keeps rule)) [ inl h ↦ cc (is, h) | inr h ↦ cc (is, h) ])
+    absurd (elim (negative_outside (is_freed (object_at w.objects object).state) (is_aligned (negsuc n) (bytes_of_kind kind)) (keeps rule)) [ inl h ↦ cc (is, h) | inr h ↦ cc (is, h) ])
 store_reach rule kind line object (negsuc n) reaches.own v w is all =
-    absurd (elim (negative_outside (is_aligned (negsuc n) (bytes_of_kind kind)) (keeps rule)) [ inl h ↦ cc (is, h) | inr h ↦ cc (is, h) ])
+    absurd (elim (negative_outside (is_freed (object_at w.objects object).state) (is_aligned (negsuc n) (bytes_of_kind kind)) (keeps rule)) [ inl h ↦ cc (is, h) | inr h ↦ cc (is, h) ])
 store_reach rule kind line object o reaches.outside v w is all = subst AreWhole (sym (put_objects rule line object (granule o) _ _)) all
 store_reach rule kind line object o reaches.vanishing v w is all = all
 
@@ -171,6 +175,6 @@ null_whole false rule kind line d v w all = all
 
 pub whole_store : (rule : Rule) (kind : LoadKind) (line : ℕ) (p : Value) (d : ℤ) (v : Value) (w : World) → AreWhole w.objects → AreWhole (end_of (store rule kind line p d v w)).objects
 whole_store rule kind line (value.Ptr object offset) d v w all =
-    by_target (λ t. AreWhole (end_of (store_at t rule kind line v w)).objects) rule w object offset d (bytes_of_kind kind) all all (store_reach rule kind line object (offset +ℤ d) (reach (keeps rule) (object_at w.objects object).size (offset +ℤ d) (bytes_of_kind kind)) v w refl all)
+    by_target (λ t. AreWhole (end_of (store_at t rule kind line v w)).objects) rule w object offset d (bytes_of_kind kind) all all (λ known. store_reach rule kind line object (offset +ℤ d) (reach_in rule (object_at w.objects object) (offset +ℤ d) (bytes_of_kind kind)) v w refl all)
 whole_store rule kind line value.Null d v w all = null_whole (is_far d) rule kind line d v w all
 whole_store rule kind line (value.Num n) d v w all = null_whole (is_far d) rule kind line d v w all

@@ -1,8 +1,8 @@
 -- Loads and stores (C99 6.5.3.2 and 6.5.16, and 6.5.6 for the bounds). An access through a pointer with a displacement goes
 -- through these tests in order: the object is dead, the displacement or the offset lies too far out, the access goes astray. A
 -- stray access is told first. Then it vanishes: a store changes nothing, and a load takes the next manufactured value. Under
--- the other rules it does so through null and where it is ill aligned; else it reaches a granule of the object's own, which is
--- read and written as an access inside does, or one outside of the object.
+-- the other rules it does so through null, through a freed object's pointer and where it is ill aligned; else it reaches a
+-- granule of the object's own, which is read and written as an access inside does, or one outside of the object.
 use Rattle.std.specs.Prelude.{ℕ, Bool, true, false, ◌||◌, nat_lt, ℤ, ◌+ℤ◌, List, length, Option, Some, None, is_some, unwrap_or, if◌then◌else◌}
 use Rattle.ob_model.specs.declared.endings.Ending.TheVariants.{Far}
 use Rattle.ob_model.specs.declared.strays.Act.{Act}
@@ -10,15 +10,16 @@ use Rattle.ob_model.specs.declared.strays.Act.TheVariants as act
 use Rattle.ob_model.specs.declared.values.LoadKind.{LoadKind}
 use Rattle.ob_model.specs.declared.values.Value.{Value}
 use Rattle.ob_model.specs.declared.values.Value.TheVariants as value
-use Rattle.ob_model.specs.Accesses.{Reach, bytes_of_kind, granule, is_far, reach}
+use Rattle.ob_model.specs.Accesses.{Reach, bytes_of_kind, granule, is_far, reach, stray_event}
 use Rattle.ob_model.specs.Accesses as reaches
 use Rattle.ob_model.specs.Bounded.{after_load, after_store, dropped, listed_cell, put_first}
 use Rattle.ob_model.specs.Cells.{unset}
 use Rattle.ob_model.specs.Endings.{plain, dead, dropped as too_many}
 use Rattle.ob_model.specs.Manufactured.{place_after}
+use Rattle.ob_model.specs.Objects.{is_freed}
 use Rattle.ob_meaning.specs.Memory.{Object, is_dead, object_at, own_cell, with_own_cell}
 use Rattle.ob_meaning.specs.Values.{Cell, made_value, nothing, read_cell, write_cell}
-use Rattle.ob_meaning.specs.World.{Rule, vanish, kept, unlimited, World, Run, stop, go, stray_event, told}
+use Rattle.ob_meaning.specs.World.{Rule, vanish, kept, unlimited, World, Run, stop, go, told}
 
 -- ---- where an access goes
 
@@ -33,11 +34,15 @@ keeps vanish = false
 keeps (kept cap) = true
 keeps (unlimited cap) = true
 
+-- how far an access of k bytes at an offset of an object reaches
+abbrev pub reach_in : Rule → Object → ℤ → ℕ → Reach
+reach_in rule o offset k = reach (keeps rule) (is_freed o.state) o.size offset k
+
 -- through null the object is 0, the offset is the displacement, and the access goes astray
 abbrev pub target_at : Rule → List Object → Value → ℤ → ℕ → Target
 target_at rule objects (value.Ptr object offset) d k =
     if is_far (offset +ℤ d) then too_far
-    else at object (offset +ℤ d) (reach (keeps rule) (object_at objects object).size (offset +ℤ d) k)
+    else at object (offset +ℤ d) (reach_in rule (object_at objects object) (offset +ℤ d) k)
 target_at rule objects value.Null d k = at 0 d reaches.vanishing
 target_at rule objects (value.Num n) d k = at 0 d reaches.vanishing
 
@@ -64,7 +69,7 @@ first_drop None true events = Some events
 first_drop None false events = None
 
 -- A store under a bounded rule may drop the least recently used granule. Under an unlimited rule the run ends instead of
--- keeping one granule more than the cap.
+-- keeping one granule more than the cap; the list has granules of live objects alone.
 abbrev pub put_outside : Rule → ℕ → ℕ → ℤ → Cell → World → Run Value
 put_outside vanish line object g cell w = go nothing w
 put_outside (kept cap) line object g cell w =

@@ -10,9 +10,11 @@ use Rattle.ob_model.specs.declared.values.Value.{Value}
 use Rattle.ob_model.specs.declared.values.Value.TheVariants as value_of
 use Rattle.ob_model.specs.Cells.{zeros}
 use Rattle.ob_model.specs.Endings.{plain}
+use Rattle.ob_model.specs.Limits.{stack_bytes}
+use Rattle.ob_model.specs.Objects.{is_among}
 use Rattle.ob_tree.specs.Types.{PlainType, PlainStructs}
 use Rattle.ob_meaning.specs.Expressions.{choose}
-use Rattle.ob_meaning.specs.Memory.{Object, is_among, new_object, next_number, with_own}
+use Rattle.ob_meaning.specs.Memory.{Object, new_object, next_number, with_own}
 use Rattle.ob_meaning.specs.Setup.{Below, Flow, next, broke, continued, gave, Setup, function_at, kind_of}
 use Rattle.ob_tree.specs.Sizes.{allowance, size}
 use Rattle.ob_meaning.specs.Statements.{exec, turns}
@@ -20,9 +22,6 @@ use Rattle.ob_meaning.specs.Values.{write_cell}
 use Rattle.ob_meaning.specs.World.{World, Call, Run, stop, go, bind, without}
 
 -- ---- the stack
-
-abbrev pub stack_bytes : ℕ
-stack_bytes = 1048576
 
 abbrev pub allowance_of : Setup → ℕ → ℕ
 allowance_of u f =

@@ -1,24 +1,36 @@
 -- Laws of the meaning. The example programs run with the cycle 0, 1, 2 of manufactured values from its first place on, for
--- sixty steps, with room for one out-of-bounds pointer and 32 bytes of heap, and without input unless it is given.
+-- sixty steps, with room for one out-of-bounds pointer and 32 bytes of heap, under the first profile unless another is given,
+-- and without input unless it is given.
 use Rattle.std.specs.Prelude.{◌≡◌, ℕ, ℤ, pos, negsuc, List, [], ◌∷◌, Some}
 use Rattle.ob_model.specs.declared.endings.Ending.TheVariants.{Ended, Steps, Divide, Stack, Descriptors, Far, ReadFault}
 use Rattle.ob_model.specs.declared.settings.Mode.TheVariants.{Oblivious}
+use Rattle.ob_model.specs.declared.settings.Profile.{Profile}
+use Rattle.ob_model.specs.declared.settings.Profile.TheVariants.{One}
 use Rattle.ob_model.specs.declared.settings.RunSettings.{RunSettings}
 use Rattle.ob_model.specs.declared.strays.Act.{Act}
 use Rattle.ob_model.specs.declared.strays.Act.TheVariants as act
 use Rattle.ob_model.specs.declared.strays.StrayEvent.{StrayEvent}
+use Rattle.ob_model.specs.Accesses.{stray_event}
 use Rattle.ob_model.specs.Endings.{Finish, InputEnd, closed, failed, Outcome, plain, dead, dropped}
 use Rattle.ob_typed.specs.TypedTree.{TypedProgram}
 use Rattle.ob_meaning.specs.Examples as examples
 use Rattle.ob_meaning.specs.Runs.{meaning, meaning_end}
-use Rattle.ob_meaning.specs.World.{Rule, vanish, kept, unlimited, World, stray_event}
+use Rattle.ob_meaning.specs.World.{Rule, vanish, kept, unlimited, World}
+
+abbrev pub settings_in : Profile → RunSettings
+settings_in profile = record { mode = Oblivious; store = 1; away = 1; heap = 32; profile = profile }
 
 abbrev pub example_settings : RunSettings
-example_settings = record { mode = Oblivious; store = 1; away = 1; heap = 32 }
+example_settings = settings_in One
 
 abbrev pub run_on : Rule → List ℕ → InputEnd → TypedProgram → Outcome
 run_on rule input input_end program =
     meaning program rule example_settings (0 ∷ 1 ∷ 2 ∷ []) 0 input input_end 60
+
+-- the same without input, under a profile
+abbrev pub run_in : Profile → Rule → TypedProgram → Outcome
+run_in profile rule program =
+    meaning program rule (settings_in profile) (0 ∷ 1 ∷ 2 ∷ []) 0 [] closed 60
 
 abbrev pub run_under : Rule → TypedProgram → Outcome
 run_under rule program = run_on rule [] closed program

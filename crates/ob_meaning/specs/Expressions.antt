@@ -117,7 +117,7 @@ built_in u line builtin.PutChar vs w = write_byte (argument vs 0) w
 built_in u line builtin.Malloc vs w = allocated u.settings.heap (byte_count (argument vs 0)) w
 built_in u line builtin.Calloc vs w =
     allocated u.settings.heap (byte_count (argument vs 0) * byte_count (argument vs 1)) w
-built_in u line builtin.Free vs w = free line (argument vs 0) w
+built_in u line builtin.Free vs w = free u.settings.profile line (argument vs 0) w
 built_in u line builtin.Exit vs w = exited (argument vs 0) w
 
 -- ---- expressions

@@ -1,20 +1,22 @@
 -- The objects of the heap (C99 7.20.3), input and output (7.19.7), and `exit` (7.20.4.3). A new object lies at the first place
 -- that fits; its place decides whether there is room, and nothing else.
-use Rattle.std.specs.Prelude.{ℕ, ◌%◌, ◌==◌, ◌&&◌, Bool, true, false, pos, negsuc, unsigned_abs, List, [], ◌∷◌, ◌++◌, Option, Some, None, if◌then◌else◌}
-use Rattle.std.specs.Ordering.{int_eq}
+use Rattle.std.specs.Prelude.{ℕ, ◌%◌, ◌==◌, Bool, ℤ, pos, negsuc, unsigned_abs, List, [], ◌∷◌, ◌++◌, Option, Some, None, if◌then◌else◌}
 use Rattle.ob_words.specs.declared.types.IntType.TheVariants.{Int, UChar, ULong}
 use Rattle.ob_words.specs.Conversion.{convert}
 use Rattle.ob_model.specs.declared.endings.Ending.TheVariants.{Ended, ReadFault}
-use Rattle.ob_model.specs.declared.objects.Sort.{Sort}
-use Rattle.ob_model.specs.declared.objects.Sort.TheVariants.{Static, Automatic, Heap}
+use Rattle.ob_model.specs.declared.objects.Sort.TheVariants.{Heap}
+use Rattle.ob_model.specs.declared.settings.Profile.{Profile}
+use Rattle.ob_model.specs.declared.settings.Profile.TheVariants.{One, Two}
 use Rattle.ob_model.specs.declared.strays.Act.TheVariants as act
 use Rattle.ob_model.specs.declared.values.Value.{Value}
 use Rattle.ob_model.specs.declared.values.Value.TheVariants as value
+use Rattle.ob_model.specs.Accesses.{stray_event}
 use Rattle.ob_model.specs.Endings.{InputEnd, closed, failed, plain, dead}
 use Rattle.ob_model.specs.Heap.{place_for, with_object}
-use Rattle.ob_meaning.specs.Memory.{is_dead, new_object, next_number, object_at}
+use Rattle.ob_model.specs.Objects.{frees, is_freed}
+use Rattle.ob_meaning.specs.Memory.{Object, is_dead, new_object, next_number, object_at}
 use Rattle.ob_meaning.specs.Values.{nothing, number_of}
-use Rattle.ob_meaning.specs.World.{World, Run, stop, go, stray_event, told, without}
+use Rattle.ob_meaning.specs.World.{World, Run, stop, go, told, with_freed, without}
 
 -- ---- allocation
 
@@ -37,22 +39,25 @@ byte_count v = unsigned_abs (convert ULong (number_of v))
 
 -- ---- `free`
 
--- a heap object's own pointer ends the object's life; any other pointer into a live object goes astray
-abbrev pub is_heap : Sort → Bool
-is_heap Static = false
-is_heap Automatic = false
-is_heap Heap = true
+-- what becomes of an object that is freed: under the first profile it dies, under the second it stays known
+abbrev pub freed_under : Profile → ℕ → World → World
+freed_under One object w = without (λ other. other == object) w
+freed_under Two object w = with_freed object w
 
-abbrev pub freed : ℕ → Value → World → Run Value
-freed line (value.Num n) w = go nothing w
-freed line value.Null w = go nothing w
-freed line (value.Ptr object offset) w =
-    if is_heap (object_at w.objects object).sort && int_eq offset (pos 0)
-    then go nothing (without (λ other. other == object) w)
+-- whether a pointer to this offset frees its object: that to the first byte of a live heap object does
+abbrev pub frees_it : Object → ℤ → Bool
+frees_it o offset = frees (is_freed o.state) o.sort offset
+
+-- any other pointer to a live or freed object goes astray, and nothing else happens; null does nothing
+abbrev pub free_known : Profile → ℕ → Value → World → Run Value
+free_known profile line (value.Num n) w = go nothing w
+free_known profile line value.Null w = go nothing w
+free_known profile line (value.Ptr object offset) w =
+    if frees_it (object_at w.objects object) offset then go nothing (freed_under profile object w)
     else go nothing (told (stray_event line act.Free object offset 0) w)
 
-abbrev pub free : ℕ → Value → World → Run Value
-free line p w = if is_dead w.objects p then stop (dead line) w else freed line p w
+abbrev pub free : Profile → ℕ → Value → World → Run Value
+free profile line p w = if is_dead w.objects p then stop (dead line) w else free_known profile line p w
 
 -- ---- input, output and `exit`
 

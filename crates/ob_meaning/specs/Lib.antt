@@ -14,6 +14,9 @@ pub mod Runs
 pub mod FirstDrop
 pub mod Depth
 pub mod MemoryLaws
+pub mod Shown
+pub mod RunEnds
+pub mod Lives
 pub mod TypeLaws
 pub mod ValueTypes
 pub mod ExampleTrees
@@ -22,3 +25,7 @@ pub mod ExampleRuns
 pub mod ControlExamples
 pub mod ControlRuns
 pub mod LineExample
+pub mod RuleExamples
+pub mod RuleRuns
+pub mod FreedExamples
+pub mod FreedRuns

@@ -20,6 +20,7 @@ use Rattle.ob_words.specs.declared.types.Relation.TheVariants as relation
 use Rattle.ob_model.specs.declared.strays.Act.{Act}
 use Rattle.ob_model.specs.declared.strays.Act.TheVariants as act
 use Rattle.ob_model.specs.declared.strays.StrayEvent.{StrayEvent}
+use Rattle.ob_model.specs.Accesses.{stray_event}
 use Rattle.ob_model.specs.Endings.{Outcome, closed}
 use Rattle.ob_tree.specs.Types.{PlainType}
 use Rattle.ob_tree.specs.Types.PlainType.{Int, Array}
@@ -32,7 +33,7 @@ use Rattle.ob_meaning.specs.ControlExamples.{block, local}
 use Rattle.ob_meaning.specs.ExampleRuns.{Prints, example_settings}
 use Rattle.ob_meaning.specs.Runs.{meaning}
 use Rattle.ob_meaning.specs.ExampleTrees.{int_type, char_type, char_pointer, int, number, as_char, place, arguments_of, built_in_call, function_of, main_of, pointer_to, program_of, zero_object}
-use Rattle.ob_meaning.specs.World.{Rule, vanish, kept, stray_event}
+use Rattle.ob_meaning.specs.World.{Rule, vanish, kept}
 
 -- ---- the library's function
 

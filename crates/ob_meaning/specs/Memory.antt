@@ -1,29 +1,30 @@
 -- The memory of a program: objects (C99 6.2.4), each with its own granules of eight bytes. Objects are numbered in order of
 -- making, from 1 on, and a number is never used again. No object has a place among others, so nothing lies beside it.
-use Rattle.std.specs.Prelude.{ℕ, ◌+◌, Bool, true, false, not, ◌&&◌, nat_le, nat_lt, ℤ, unsigned_abs, List, [], ◌∷◌, length, replicate, slice_index_or, slice_set}
+use Rattle.std.specs.Prelude.{ℕ, ◌+◌, Bool, true, false, ℤ, unsigned_abs, List, [], ◌∷◌, length, replicate, slice_index_or, slice_set}
 use Rattle.ob_model.specs.declared.objects.Sort.{Sort}
 use Rattle.ob_model.specs.declared.objects.Sort.TheVariants.{Static}
 use Rattle.ob_model.specs.declared.values.Value.{Value}
 use Rattle.ob_model.specs.declared.values.Value.TheVariants as value
 use Rattle.ob_model.specs.Accesses.{own_granules}
 use Rattle.ob_model.specs.Cells.{zeros}
+use Rattle.ob_model.specs.Objects.{ObjectState, live, dead, is_dead_state}
 use Rattle.ob_meaning.specs.Values.{Cell}
 
--- An object: its size in bytes, its storage duration, whether it lives, and its own granules from 0 on. The bytes of the last
--- one that lie past the size are there too.
+-- An object: its size in bytes, its storage duration, whether it is live, freed or dead, and its own granules from 0 on. The
+-- bytes of the last one that lie past the size are there too.
 pub record Object : Type 0 where
   pub size : ℕ
   pub sort : Sort
-  pub alive : Bool
+  pub state : ObjectState
   pub own : List Cell
 
 -- a new object is zero bytes
 abbrev pub new_object : Sort → ℕ → Object
-new_object sort size = record { size = size; sort = sort; alive = true; own = replicate (own_granules size) zeros }
+new_object sort size = record { size = size; sort = sort; state = live; own = replicate (own_granules size) zeros }
 
 -- what stands for an object of a number that none has
 abbrev pub no_object : Object
-no_object = record { size = 0; sort = Static; alive = false; own = [] }
+no_object = record { size = 0; sort = Static; state = dead; own = [] }
 
 -- the objects made so far stand in a list at their numbers; none has number 0
 abbrev pub object_at : List Object → ℕ → Object
@@ -50,21 +51,17 @@ wiped o = record o { own = replicate (own_granules o.size) zeros }
 abbrev pub with_wiped : List Object → ℕ → List Object
 with_wiped objects object = slice_set objects object (wiped (object_at objects object))
 
--- a pointer into an object that doesn't live (C99 6.2.4)
+-- a pointer to a dead object (C99 6.2.4); one to a freed object that stays known is none
 abbrev pub is_dead : List Object → Value → Bool
 is_dead objects (value.Num n) = false
 is_dead objects value.Null = false
-is_dead objects (value.Ptr object offset) = not (object_at objects object).alive
+is_dead objects (value.Ptr object offset) = is_dead_state (object_at objects object).state
 
--- the objects that a test names die; the list begins with the object of a number
-abbrev pub dead_if : Bool → Object → Object
-dead_if true o = record o { alive = false }
-dead_if false o = o
+-- the objects that a test names come into a state: they die, or one of them is freed; the list begins with the object of a number
+abbrev pub changed_if : Bool → ObjectState → Object → Object
+changed_if true state o = record o { state = state }
+changed_if false state o = o
 
-abbrev pub with_deaths : (ℕ → Bool) → ℕ → List Object → List Object
-with_deaths dies n [] = []
-with_deaths dies n (o ∷ os) = dead_if (dies n) o ∷ with_deaths dies (n + 1) os
-
--- a range of numbers
-abbrev pub is_among : ℕ → ℕ → ℕ → Bool
-is_among first count object = nat_le first object && nat_lt object (first + count)
+abbrev pub with_state : ObjectState → (ℕ → Bool) → ℕ → List Object → List Object
+with_state state named n [] = []
+with_state state named n (o ∷ os) = changed_if (named n) state o ∷ with_state state named (n + 1) os

@@ -1,9 +1,9 @@
 -- Moving and comparing pointers (C99 6.5.6, 6.5.8 and 6.5.9). A pointer may leave its object and come back. Those that lie
 -- outside 0 to their object's size are kept in a list, of at most as many pairs as the settings say. Moving, ordering and
--- subtracting a dead object's pointer uses it, and so does comparing it with a pointer that isn't null.
-use Rattle.std.specs.Prelude.{ℕ, ◌==◌, ◌&&◌, ◌||◌, not, nat_lt, Bool, true, false, ℤ, pos, ◌+ℤ◌, ◌-ℤ◌, ◌*ℤ◌, int_lt, int_div, List, ◌∷◌, length, is_some, if◌then◌else◌}
+-- subtracting a dead object's pointer uses it, and so does comparing it with a pointer that isn't null. A freed object's pointer
+-- is moved and compared as a live one's.
+use Rattle.std.specs.Prelude.{ℕ, ◌&&◌, ◌||◌, not, nat_lt, Bool, true, false, ℤ, pos, ◌-ℤ◌, ◌*ℤ◌, List, ◌∷◌, length, is_some, if◌then◌else◌}
 use Rattle.std.specs.List.{find}
-use Rattle.std.specs.Ordering.{int_eq}
 use Rattle.ob_words.specs.declared.types.IntType.TheVariants.{Long}
 use Rattle.ob_words.specs.declared.types.Relation.{Relation}
 use Rattle.ob_words.specs.declared.types.Relation.TheVariants.{Lt, Gt, Le, Ge, Eq, Ne}
@@ -11,10 +11,11 @@ use Rattle.ob_words.specs.Conversion.{convert}
 use Rattle.ob_model.specs.declared.endings.Ending.TheVariants.{Far, Descriptors}
 use Rattle.ob_model.specs.declared.values.Value.{Value}
 use Rattle.ob_model.specs.declared.values.Value.TheVariants as value
-use Rattle.ob_model.specs.Accesses.{is_far, is_inside}
+use Rattle.ob_model.specs.Accesses.{is_far}
 use Rattle.ob_model.specs.Descriptors.{Pair, same_pair}
 use Rattle.ob_model.specs.Endings.{plain, dead}
-use Rattle.ob_meaning.specs.Memory.{is_dead, object_at}
+use Rattle.ob_model.specs.Pointers.{Moved, stays_null, too_far, in_bounds, out_of_bounds, difference, is_null, moved_by, object_of, pointers_compare}
+use Rattle.ob_meaning.specs.Memory.{Object, is_dead, object_at}
 use Rattle.ob_meaning.specs.Values.{truth}
 use Rattle.ob_meaning.specs.World.{World, Run, stop, go}
 
@@ -42,58 +43,24 @@ listed away pair w =
     then go (value.Ptr pair.0 pair.1) (record w { out_of_bounds = pair ∷ w.out_of_bounds })
     else stop (plain Descriptors) w)
 
--- a pointer into an object at an offset, which is in bounds from 0 to the size
-abbrev pub moved_to : ℕ → ℕ → ℤ → World → Run Value
-moved_to away object offset w =
-    if is_inside (object_at w.objects object).size offset 0 then go (value.Ptr object offset) w
-    else listed away (object, offset) w
+-- what a move gives, once it is known where it leads
+abbrev pub moved : ℕ → Moved → World → Run Value
+moved away stays_null w = go value.Null w
+moved away too_far w = stop (plain Far) w
+moved away (in_bounds object offset) w = go (value.Ptr object offset) w
+moved away (out_of_bounds object offset) w = listed away (object, offset) w
 
--- null stays null
-abbrev pub moved_by : ℕ → Value → ℤ → World → Run Value
-moved_by away (value.Ptr object offset) d w =
-    if is_far (offset +ℤ d) then stop (plain Far) w else moved_to away object (offset +ℤ d) w
-moved_by away value.Null d w = go value.Null w
-moved_by away (value.Num n) d w = go value.Null w
+-- the size of the object that a pointer points to
+abbrev pub size_at : List Object → Value → ℕ
+size_at objects p = (object_at objects (object_of p)).size
 
 -- a pointer is moved by d bytes
 abbrev pub move : ℕ → ℕ → Value → ℤ → World → Run Value
 move away line p d w =
-    if is_dead w.objects p then stop (dead line) w else formed d w (moved_by away p)
+    if is_dead w.objects p then stop (dead line) w
+    else formed d w (λ e w1. moved away (moved_by (size_at w1.objects p) p e) w1)
 
 -- ---- comparisons
-
-abbrev pub is_null : Value → Bool
-is_null (value.Num n) = true
-is_null value.Null = true
-is_null (value.Ptr object offset) = false
-
--- two pointers are equal where both are null, or their objects and offsets agree
-abbrev pub is_same : Value → Value → Bool
-is_same (value.Ptr object offset) (value.Ptr other place) = (object == other) && int_eq offset place
-is_same p q = is_null p && is_null q
-
--- null counts as object 0 with offset 0
-abbrev pub object_of : Value → ℕ
-object_of (value.Num n) = 0
-object_of value.Null = 0
-object_of (value.Ptr object offset) = object
-
-abbrev pub offset_of : Value → ℤ
-offset_of (value.Num n) = pos 0
-offset_of value.Null = pos 0
-offset_of (value.Ptr object offset) = offset
-
--- pointers are in order of their objects, and then of their offsets
-abbrev pub is_before : Value → Value → Bool
-is_before p q = nat_lt (object_of p) (object_of q) || ((object_of p == object_of q) && int_lt (offset_of p) (offset_of q))
-
-abbrev pub pointers_compare : Relation → Value → Value → Bool
-pointers_compare Lt p q = is_before p q
-pointers_compare Gt p q = is_before q p
-pointers_compare Le p q = not (is_before q p)
-pointers_compare Ge p q = not (is_before p q)
-pointers_compare Eq p q = is_same p q
-pointers_compare Ne p q = not (is_same p q)
 
 -- one of two pointers is dead, and the comparison uses it
 abbrev pub one_is_dead : World → Value → Value → Bool
@@ -111,11 +78,7 @@ abbrev pub compared : Relation → ℕ → Value → Value → World → Run Val
 compared r line p q w =
     if uses_dead r w p q then stop (dead line) w else go (truth (pointers_compare r p q)) w
 
--- how many elements lie from q to p, truncated toward zero; 0 between two objects
-abbrev pub difference : ℕ → Value → Value → ℤ
-difference size p q =
-    if object_of p == object_of q then int_div (offset_of p -ℤ offset_of q) (pos size) else pos 0
-
+-- how many elements lie from q to p
 abbrev pub subtracted : ℕ → ℕ → Value → Value → World → Run Value
 subtracted size line p q w =
     if one_is_dead w p q then stop (dead line) w else go (value.Num (convert Long (difference size p q))) w

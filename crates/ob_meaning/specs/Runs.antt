@@ -1,6 +1,6 @@
 -- Whole runs (C99 5.1.2.2.3, 6.7.8, 6.9). The static objects are made, `main` is called, and the run's outcome is how it ends,
 -- what it has written, its stray accesses, and the place in the cycle of manufactured values.
-use Rattle.std.specs.Prelude.{ℕ, zero, suc, ◌+◌, ◌/◌, pos, true, List, [], ◌∷◌, ◌++◌, map, take, drop, replicate, slice_set, Some, None}
+use Rattle.std.specs.Prelude.{ℕ, zero, suc, ◌+◌, ◌/◌, pos, List, [], ◌∷◌, ◌++◌, map, take, drop, replicate, slice_set, Some, None}
 use Rattle.ob_words.specs.declared.types.IntType.TheVariants.{Int}
 use Rattle.ob_words.specs.Conversion.{convert}
 use Rattle.ob_model.specs.declared.endings.Ending.TheVariants.{Ended}
@@ -11,6 +11,7 @@ use Rattle.ob_model.specs.declared.values.Value.TheVariants as value_of
 use Rattle.ob_model.specs.Accesses.{own_granules}
 use Rattle.ob_model.specs.Cells.{bytes, pointer}
 use Rattle.ob_model.specs.Endings.{Finish, InputEnd, Outcome, plain}
+use Rattle.ob_model.specs.Objects.{live}
 use Rattle.ob_tree.specs.Types.{PlainStructs}
 use Rattle.ob_typed.specs.declared.statics.StaticPointer.{StaticPointer}
 use Rattle.ob_typed.specs.TypedTree.{PlainImage, TypedObject, TypedProgram}
@@ -45,7 +46,7 @@ static_object structs o =
     record {
       size = size structs o.ty;
       sort = Static;
-      alive = true;
+      state = live;
       own = static_cells o.image (own_granules (size structs o.ty));
     }
 

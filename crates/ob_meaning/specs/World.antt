@@ -1,14 +1,14 @@
 -- What a run keeps, and how its acts follow one another. An act ends the run or goes on with what it gives.
-use Rattle.std.specs.Prelude.{ℕ, zero, suc, not, Bool, ℤ, List, [], ◌∷◌, ◌++◌, Option}
+use Rattle.std.specs.Prelude.{ℕ, zero, suc, ◌==◌, not, Bool, List, [], ◌∷◌, ◌++◌, Option}
 use Rattle.std.specs.List.{filter}
 use Rattle.ob_model.specs.declared.endings.Ending.TheVariants.{Steps}
-use Rattle.ob_model.specs.declared.strays.Act.{Act}
 use Rattle.ob_model.specs.declared.strays.StrayEvent.{StrayEvent}
 use Rattle.ob_model.specs.Bounded.{Listed, surviving_cells}
 use Rattle.ob_model.specs.Descriptors.{Pair}
 use Rattle.ob_model.specs.Endings.{Finish, plain}
 use Rattle.ob_model.specs.Heap.{Allocated, surviving_blocks}
-use Rattle.ob_meaning.specs.Memory.{Object, with_deaths}
+use Rattle.ob_model.specs.Objects.{freed, dead}
+use Rattle.ob_meaning.specs.Memory.{Object, with_state}
 use Rattle.ob_meaning.specs.Values.{Cell}
 
 -- What becomes of stray accesses: they vanish (failure-oblivious computing: Rinard and others, OSDI 2004); or they reach granules
@@ -27,12 +27,12 @@ pub record Call : Type 0 where
 -- What a run has made, has left and has done.
 pub record World : Type 0 where
   pub objects : List Object
-  -- The granules outside of objects that a store has reached, each once at most; every other such granule has eight unset
-  -- bytes. Under a bounded rule they are in order of use, the most recently used first.
+  -- The granules outside of live objects that a store has reached, each once at most; every other such granule has eight
+  -- unset bytes. Under a bounded rule they are in order of use, the most recently used first.
   pub outside : List (Listed Cell)
-  -- the heap's blocks, in order of their places
+  -- the blocks of the heap's live and freed objects, in order of their places
   pub heap : List Allocated
-  -- the out-of-bounds pointers that were made, each once
+  -- the out-of-bounds pointers to live and freed objects that were made, each once
   pub out_of_bounds : List Pair
   -- how many events there were when a granule was first dropped, that store's own included
   pub first_drop : Option ℕ
@@ -50,10 +50,18 @@ pub record World : Type 0 where
 abbrev pub without : (ℕ → Bool) → World → World
 without dies w =
     record w {
-      objects = with_deaths dies 0 w.objects;
+      objects = with_state dead dies 0 w.objects;
       outside = surviving_cells dies w.outside;
       heap = surviving_blocks dies w.heap;
       out_of_bounds = filter (λ pair. not (dies pair.0)) w.out_of_bounds;
+    }
+
+-- an object is freed and stays known: its granules outside go; its block and its out-of-bounds pointers stay
+abbrev pub with_freed : ℕ → World → World
+with_freed object w =
+    record w {
+      objects = with_state freed (λ other. other == object) 0 w.objects;
+      outside = surviving_cells (λ other. other == object) w.outside;
     }
 
 -- ---- acts one after another
@@ -80,9 +88,6 @@ abbrev pub step : {A : Type 0} → World → (World → Run A) → Run A
 step w k = take_step w.left w k
 
 -- ---- events
-
-abbrev pub stray_event : ℕ → Act → ℕ → ℤ → ℕ → StrayEvent
-stray_event line act object offset size = record { line = line; act = act; object = object; offset = offset; size = size }
 
 -- a stray access is told, before its effect
 abbrev pub told : StrayEvent → World → World

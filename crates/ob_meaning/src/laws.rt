@@ -2,7 +2,13 @@ ghost use Rattle.ob_meaning.specs.World.{vanish, kept, unlimited};
 ghost use Rattle.ob_meaning.specs.ExampleRuns.{GranulesBefore, UnsetByteIsMade, PointerIsKeptOutside, OverrunReads, StrayStoreVanishes, StrayStoreIsKept, NeighbourIsUntouched, NumberAtNull, IllAlignedVanishes, LastGranule, PointerIsLost, DropChangesAnswer, UnlimitedEndsAtDrop, FirstDropIsTold, RecentUseKeeps, PointerComesBack, PointersAreEqualByObject, PointersAreCounted, OffsetsAreBounded, FreedPlaceIsTaken, HeapIsFull, UseAfterFreeEnds, OtherFreesAreTold, DivisionByZeroEnds, StepsRunOut, StackIsBounded, InputEnds};
 ghost use Rattle.ob_meaning.specs.ValueTypes.{CallsHaveTypes, RunsBeginTyped, ValuesHaveTypes};
 ghost use Rattle.ob_meaning.specs.TypeLaws.{ScalarsAreCounted};
-ghost use Rattle.ob_meaning.specs.MemoryLaws.{LoadsInsideTakeNone, RunsKeepObjectsWhole, OtherGranulesStay, OtherOutsidesStay, SizesAndLivesStay, AllElseStays, StoredIsLoaded, StrayStoresVanish, StrayLoadsTakeOne, UnsetByteTakesOne, SetBytesTakeNone, DeadAreNotAlive, GranulesOfTheDeadLeave, GranulesOfTheDeadDoNotCount};
+ghost use Rattle.ob_meaning.specs.MemoryLaws.{LoadsInsideTakeNone, RunsKeepObjectsWhole, RunsKeepOutsidesWhole, OtherGranulesStay, OtherOutsidesStay, OthersStayUndropped, SizesAndLivesStay, AllElseStays, StoredIsLoaded, StoredOutsideIsLoaded, StrayStoresVanish, StrayLoadsTakeOne, UnsetByteTakesOne, SetBytesTakeNone, NamedAreDead, GranulesOfTheDeadLeave, GranulesOfTheDeadDoNotCount, FreedStaysKnown, GranulesOfTheFreedLeave, OthersStayAsTheyAre, FirstByteIsFreed, FreedAgainIsTold, FreedStoresVanish, FreedLoadsTakeOne};
+ghost use Rattle.ob_meaning.specs.RunEnds.{RunsEndByThemselves};
+ghost use Rattle.ob_meaning.specs.Lives.{NoneIsFreed, AutomaticsAloneDie, LiveObjectsAloneCount};
+ghost use Rattle.ob_meaning.specs.Shown.{ShownIsLoaded};
+ghost use Rattle.ob_meaning.specs.RuleRuns.{OperatorsCompute, ElseIsTheOther, SubscriptsAreInOrder, StructureIsInitial, StringFitsExactly, RelationsOfPointers, TwoObjectsAreOrdered, ProductIsExact, InnerFreeIsTold, StackIsFull};
+ghost use Rattle.ob_meaning.specs.FreedRuns.{FreedStoreVanishes, BlockIsGivenAgain, FreedIsFreedAgain, FreedGranuleIsGone, FreedIsCompared, FreedPairStays, GranuleMakesRoom, AutomaticsDie, VariablesShow, StaticsShowAtTheEnd};
+ghost use Rattle.ob_model.specs.declared.settings.Profile.TheVariants.{One, Two};
 ghost use Rattle.ob_meaning.specs.FirstDrop.{AgreementGoesThrough, RunsAreAlikeToTheFirstDrop, RunsOfSettingsAreAlike, VanishingRunsDropNothing};
 ghost use Rattle.ob_meaning.specs.Depth.{BoundOnCallsIsFree, BoundOnTurnsIsFree};
 ghost use Rattle.ob_meaning.specs.LineExample.{LineIsCut, LineIsWhole};
@@ -99,6 +105,51 @@ pub fn law_assignments()
     ensures scalars_kept { ScalarsGoAstray (kept 1) 50 0 }
 {}
 
+/// Runs of small programs, each about one or two rules: operators, `else`, the order of a subscript, copies and
+/// strings as initialisers, comparisons of pointers, the product of `calloc`, `free` of an inner pointer, and the
+/// stack at its bound.
+pub fn law_rules()
+    ensures operators { OperatorsCompute }
+    ensures choices { ElseIsTheOther }
+    ensures subscripts { SubscriptsAreInOrder }
+    ensures copy { StructureIsInitial }
+    ensures string { StringFitsExactly }
+    ensures relations { RelationsOfPointers }
+    ensures two_objects { TwoObjectsAreOrdered }
+    ensures product { ProductIsExact }
+    ensures inner_free { InnerFreeIsTold }
+    ensures stack { StackIsFull }
+{}
+
+/// Runs of small programs that use heap objects after they were freed, under the second profile, and some of
+/// them under the first; an automatic object dies under both.
+pub fn law_freed_runs()
+    ensures store { FreedStoreVanishes vanish }
+    ensures store_kept { FreedStoreVanishes (kept 2) }
+    ensures store_unlimited { FreedStoreVanishes (unlimited 2) }
+    ensures block_stays { BlockIsGivenAgain Two 48 }
+    ensures block_is_given { BlockIsGivenAgain One 49 }
+    ensures again { FreedIsFreedAgain vanish }
+    ensures again_kept { FreedIsFreedAgain (kept 2) }
+    ensures granule { FreedGranuleIsGone (kept 2) }
+    ensures granule_unlimited { FreedGranuleIsGone (unlimited 2) }
+    ensures compared { FreedIsCompared }
+    ensures pair { FreedPairStays }
+    ensures room { GranuleMakesRoom Two (unlimited 1) }
+    ensures room_kept { GranuleMakesRoom Two (kept 1) }
+    ensures room_of_dead { GranuleMakesRoom One (unlimited 1) }
+    ensures automatic { AutomaticsDie One }
+    ensures automatic_two { AutomaticsDie Two }
+{}
+
+/// What shows of two runs at their ends, one of which has a call in progress. The value that shows of an object is
+/// the one that a load of it gives, which tells nothing and takes nothing.
+pub fn law_shown()
+    ensures variables { VariablesShow }
+    ensures statics { StaticsShowAtTheEnd }
+    ensures loaded { ShownIsLoaded }
+{}
+
 /// A program that reads a line into a buffer that is too short, and prints it.
 pub fn law_line()
     ensures cut { LineIsCut }
@@ -124,22 +175,27 @@ pub fn law_depth()
     ensures turns { BoundOnTurnsIsFree }
 {}
 
-/// A store through a pointer changes at most one granule of that pointer's object, or one granule outside
-/// of it. Each other granule of that object and of every other stays, and so do sizes, lives and all that
-/// is no memory.
+/// A store through a pointer changes at most one granule of that pointer's object, or one granule outside of it. Each
+/// other granule of that object and of every other stays, and so do sizes, lives and all that is no memory. Of the
+/// granules outside this holds where objects are unlimited, and of a bounded list where it drops nothing: a store
+/// that drops one takes that one away as well.
 pub fn law_stores()
     ensures granules { OtherGranulesStay }
     ensures outsides { OtherOutsidesStay }
+    ensures undropped { OthersStayUndropped }
     ensures lives { SizesAndLivesStay }
     ensures rest { AllElseStays }
 {}
 
 /// What is stored inside of an object is loaded again, converted to the type, and pointers as they are. A
-/// load inside takes no manufactured value, since no object of a run has an unset byte of its own.
+/// load inside takes no manufactured value, since no object of a run has an unset byte of its own. What is stored
+/// outside of an object is loaded again while objects are unlimited, since each granule of a run has eight bytes.
 pub fn law_loads()
     ensures stored { StoredIsLoaded }
     ensures inside { LoadsInsideTakeNone }
     ensures whole { RunsKeepObjectsWhole }
+    ensures outside { StoredOutsideIsLoaded }
+    ensures eight { RunsKeepOutsidesWhole }
 {}
 
 /// Where stray accesses vanish, a stray store changes no memory and a stray load takes exactly one
@@ -154,9 +210,36 @@ pub fn law_strays()
 
 /// When objects die, their granules leave and no longer count, and those of all others stay.
 pub fn law_deaths()
-    ensures alive { DeadAreNotAlive }
+    ensures dead { NamedAreDead }
     ensures granules { GranulesOfTheDeadLeave }
     ensures count { GranulesOfTheDeadDoNotCount }
+{}
+
+/// A heap object that is freed under the second profile stays known, with its size, its block and its out-of-bounds
+/// pointers, while its granules outside leave. Through its pointer a store changes nothing, a load takes exactly one
+/// manufactured value and `free` does nothing; each of them is told.
+pub fn law_frees()
+    ensures first { FirstByteIsFreed }
+    ensures known { FreedStaysKnown }
+    ensures granules { GranulesOfTheFreedLeave }
+    ensures others { OthersStayAsTheyAre }
+    ensures again { FreedAgainIsTold }
+    ensures stores { FreedStoresVanish }
+    ensures loads { FreedLoadsTakeOne }
+{}
+
+/// In no run is an object freed under the first profile. Under the second one automatic objects alone die. The
+/// granules that are kept outside of objects, and count against the bound, are those of live objects.
+pub fn law_lives()
+    ensures none_freed { NoneIsFreed }
+    ensures automatic { AutomaticsAloneDie }
+    ensures live { LiveObjectsAloneCount }
+{}
+
+/// No run ends for want of memory, with a failed write or for its number of instructions, and one ends with a failed
+/// read only where the input ends in a failure.
+pub fn law_endings()
+    ensures { RunsEndByThemselves }
 {}
 
 /// The scalars that a structure assignment copies are as many as the structure's layout counts.
