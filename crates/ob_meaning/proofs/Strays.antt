@@ -1,8 +1,10 @@
 -- What stray accesses do, and what the deaths of objects take away.
-use Rattle.std.proofs.Common.{◌≡◌, ℕ, zero, suc, ◌+◌, ◌<◌, ◌≤◌, ◌==◌, Bool, true, false, not, ◌&&◌, nat_lt, ℤ, pos, ◌+ℤ◌, List, [], ◌∷◌, length, Option, None, if◌then◌else◌, arith, eq-eqb, refl, sym, subst, ◌∙◌, ap}
+use Rattle.std.proofs.Common.{◌≡◌, ℕ, zero, suc, ◌+◌, ◌<◌, ◌≤◌, ◌==◌, Bool, true, false, not, ◌&&◌, ◌||◌, nat_lt, ℤ, pos, ◌+ℤ◌, List, [], ◌∷◌, length, Option, None, if◌then◌else◌, arith, eq-eqb, refl, sym, subst, ◌∙◌, ap}
 use Rattle.std.proofs.lemmas.Bool.Decides.{nat_tests}
 use Rattle.std.proofs.lemmas.List.{get_or_past}
 use Rattle.std.proofs.lemmas.List.Sums.{length-filter}
+use Rattle.ob_words.specs.declared.types.Relation.{Relation}
+use Rattle.ob_words.specs.declared.types.Relation.TheVariants as relation
 use Rattle.ob_model.specs.declared.objects.Sort.{Sort}
 use Rattle.ob_model.specs.declared.objects.Sort.TheVariants.{Heap}
 use Rattle.ob_model.specs.declared.settings.Profile.{Profile}
@@ -15,11 +17,13 @@ use Rattle.ob_model.specs.Accesses.{Reach, bytes_of_kind, granule, is_aligned, i
 use Rattle.ob_model.specs.Accesses as reaches
 use Rattle.ob_model.specs.Bounded.{surviving_cells}
 use Rattle.ob_model.specs.Objects.{ObjectState, live, freed, dead, frees, is_dead_state, is_freed}
+use Rattle.ob_model.specs.Pointers.{is_null}
 use Rattle.ob_model.proofs.Astray.{freed_vanish, strays_vanish}
 use Rattle.ob_meaning.specs.Accesses.{Target, dead_object, too_far, at, keeps, load_at, or_made, reach_in, store_at, target}
 use Rattle.ob_meaning.specs.Heap.{free, free_known, frees_it}
-use Rattle.ob_meaning.specs.Memory.{Object, changed_if, no_object, object_at, with_state}
-use Rattle.ob_meaning.specs.MemoryLaws.{FirstByteIsFreed, FreedAgainIsTold, FreedLoadsTakeOne, FreedStaysKnown, FreedStoresVanish, GoesAstray, GoesOutside, GranulesOfTheDeadDoNotCount, GranulesOfTheDeadLeave, GranulesOfTheFreedLeave, NamedAreDead, OthersStayAsTheyAre, Reaches, ReachesFreed, SetBytesTakeNone, StrayLoadsTakeOne, StrayStoresVanish, UnsetByteTakesOne, event_of, is_astray}
+use Rattle.ob_meaning.specs.Memory.{Object, changed_if, is_dead, no_object, object_at, with_state}
+use Rattle.ob_meaning.specs.MemoryLaws.{FirstByteIsFreed, FreedAgainIsTold, FreedLoadsTakeOne, FreedStaysKnown, FreedStoresVanish, GoesAstray, GoesOutside, GranulesOfTheDeadDoNotCount, GranulesOfTheDeadLeave, GranulesOfTheFreedLeave, KnownAreCompared, KnownAreMoved, KnownAreSubtracted, NamedAreDead, OthersStayAsTheyAre, Reaches, ReachesFreed, SetBytesTakeNone, StrayLoadsTakeOne, StrayStoresVanish, UnsetByteTakesOne, event_of, is_astray}
+use Rattle.ob_meaning.specs.Pointers.{one_is_dead, uses_dead}
 use Rattle.ob_meaning.specs.World.{Rule, vanish, unlimited, World, told}
 use Rattle.ob_meaning.proofs.OutsideLists.{cell_in, cond_false, cond_true, listed_is}
 use Rattle.ob_meaning.proofs.SameMaps.{cell-surviving}
@@ -198,3 +202,32 @@ freed_again_is_told profile line object offset w h =
     let o : Object = object_at w.objects object in
     let test : frees_it o offset ≡ false = ap (λ (s : ObjectState). frees (is_freed s) o.sort offset) h in
     free_is profile line object offset w (ap is_dead_state h) ∙ if_false (frees_it o offset) _ _ test
+
+pub known_are_moved : KnownAreMoved
+known_are_moved away line p d w known = if_false (is_dead w.objects p) _ _ known
+
+neither : (a b : Bool) → a ≡ false → b ≡ false → (a || b) ≡ false
+neither false b h i = i
+neither true b h i = absurd (cc)
+
+-- a comparison that is asked only where neither pointer is null
+unless_null : (a b c : Bool) → c ≡ false → (not a && (not b && c)) ≡ false
+unless_null true b c h = refl
+unless_null false true c h = refl
+unless_null false false c h = h
+
+uses_none : (r : Relation) (p q : Value) (w : World) → one_is_dead w p q ≡ false → uses_dead r w p q ≡ false
+uses_none relation.Lt p q w h = h
+uses_none relation.Gt p q w h = h
+uses_none relation.Le p q w h = h
+uses_none relation.Ge p q w h = h
+uses_none relation.Eq p q w h = unless_null (is_null p) (is_null q) (one_is_dead w p q) h
+uses_none relation.Ne p q w h = unless_null (is_null p) (is_null q) (one_is_dead w p q) h
+
+pub known_are_compared : KnownAreCompared
+known_are_compared r line p q w h i =
+    if_false (uses_dead r w p q) _ _ (uses_none r p q w (neither (is_dead w.objects p) (is_dead w.objects q) h i))
+
+pub known_are_subtracted : KnownAreSubtracted
+known_are_subtracted size line p q w h i =
+    if_false (one_is_dead w p q) _ _ (neither (is_dead w.objects p) (is_dead w.objects q) h i)

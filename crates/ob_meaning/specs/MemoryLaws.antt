@@ -1,6 +1,8 @@
 -- Laws of accesses, of deaths and of freed objects, in the subject's own words.
 use Rattle.std.specs.Prelude.{◌≡◌, ◌≢◌, ℕ, ◌==◌, Bool, true, false, not, ◌&&◌, is_some, ℤ, pos, ◌+ℤ◌, List, length, All, Some, None, if◌then◌else◌}
 use Rattle.std.specs.List.{count_by}
+use Rattle.ob_words.specs.declared.types.IntType.TheVariants.{Long}
+use Rattle.ob_words.specs.declared.types.Relation.{Relation}
 use Rattle.ob_words.specs.Conversion.{convert}
 use Rattle.ob_model.specs.declared.objects.Sort.TheVariants.{Heap}
 use Rattle.ob_model.specs.declared.settings.Profile.{Profile}
@@ -19,12 +21,14 @@ use Rattle.ob_model.specs.Cells.{bytes, has_eight, pointer, set_bytes}
 use Rattle.ob_model.specs.Endings.{InputEnd}
 use Rattle.ob_model.specs.Manufactured.{place_after}
 use Rattle.ob_model.specs.Objects.{live, freed, dead, is_dead_state, is_freed}
+use Rattle.ob_model.specs.Pointers.{difference, moved_by, pointers_compare}
 use Rattle.ob_typed.specs.TypedTree.{TypedProgram}
 use Rattle.ob_meaning.specs.Accesses.{load, store, outside_cell}
 use Rattle.ob_meaning.specs.Heap.{free}
-use Rattle.ob_meaning.specs.Memory.{Object, object_at, own_cell}
+use Rattle.ob_meaning.specs.Memory.{Object, is_dead, object_at, own_cell}
+use Rattle.ob_meaning.specs.Pointers.{compared, formed, move, moved, size_at, subtracted}
 use Rattle.ob_meaning.specs.Runs.{meaning_end}
-use Rattle.ob_meaning.specs.Values.{Cell, made_value, nothing, number_of, read_cell}
+use Rattle.ob_meaning.specs.Values.{Cell, made_value, nothing, number_of, read_cell, truth}
 use Rattle.ob_meaning.specs.World.{Rule, vanish, kept, unlimited, World, Run, go, end_of, told, with_freed, without}
 
 -- the two name one granule of one object
@@ -65,7 +69,7 @@ OtherOutsidesStay =
     ¬ IsSameGranule object (granule (offset +ℤ d)) other g →
     outside_cell (stored (unlimited cap) kind line (value.Ptr object offset) d v w) other g ≡ outside_cell w other g
 
--- where a bounded list drops nothing, the same
+-- the same for a bounded list for as long as nothing was dropped
 abbrev pub OthersStayUndropped : Type 0
 OthersStayUndropped =
     (cap : ℕ) (kind : LoadKind) (line object other : ℕ) (offset d g : ℤ) (v : Value) (w : World) →
@@ -272,3 +276,24 @@ FreedAgainIsTold =
     (profile : Profile) (line object : ℕ) (offset : ℤ) (w : World) →
     (object_at w.objects object).state ≡ freed →
     free profile line (value.Ptr object offset) w ≡ go nothing (told (stray_event line act.Free object offset 0) w)
+
+-- pointers to live and freed objects alike are moved, ordered, compared and subtracted
+abbrev pub KnownAreMoved : Type 0
+KnownAreMoved =
+    (away line : ℕ) (p : Value) (d : ℤ) (w : World) →
+    is_dead w.objects p ≡ false →
+    move away line p d w ≡ formed d w (λ e w1. moved away (moved_by (size_at w1.objects p) p e) w1)
+
+abbrev pub KnownAreCompared : Type 0
+KnownAreCompared =
+    (r : Relation) (line : ℕ) (p q : Value) (w : World) →
+    is_dead w.objects p ≡ false →
+    is_dead w.objects q ≡ false →
+    compared r line p q w ≡ go (truth (pointers_compare r p q)) w
+
+abbrev pub KnownAreSubtracted : Type 0
+KnownAreSubtracted =
+    (size line : ℕ) (p q : Value) (w : World) →
+    is_dead w.objects p ≡ false →
+    is_dead w.objects q ≡ false →
+    subtracted size line p q w ≡ go (value.Num (convert Long (difference size p q))) w

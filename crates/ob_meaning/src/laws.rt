@@ -2,7 +2,7 @@ ghost use Rattle.ob_meaning.specs.World.{vanish, kept, unlimited};
 ghost use Rattle.ob_meaning.specs.ExampleRuns.{GranulesBefore, UnsetByteIsMade, PointerIsKeptOutside, OverrunReads, StrayStoreVanishes, StrayStoreIsKept, NeighbourIsUntouched, NumberAtNull, IllAlignedVanishes, LastGranule, PointerIsLost, DropChangesAnswer, UnlimitedEndsAtDrop, FirstDropIsTold, RecentUseKeeps, PointerComesBack, PointersAreEqualByObject, PointersAreCounted, OffsetsAreBounded, FreedPlaceIsTaken, HeapIsFull, UseAfterFreeEnds, OtherFreesAreTold, DivisionByZeroEnds, StepsRunOut, StackIsBounded, InputEnds};
 ghost use Rattle.ob_meaning.specs.ValueTypes.{CallsHaveTypes, RunsBeginTyped, ValuesHaveTypes};
 ghost use Rattle.ob_meaning.specs.TypeLaws.{ScalarsAreCounted};
-ghost use Rattle.ob_meaning.specs.MemoryLaws.{LoadsInsideTakeNone, RunsKeepObjectsWhole, RunsKeepOutsidesWhole, OtherGranulesStay, OtherOutsidesStay, OthersStayUndropped, SizesAndLivesStay, AllElseStays, StoredIsLoaded, StoredOutsideIsLoaded, StrayStoresVanish, StrayLoadsTakeOne, UnsetByteTakesOne, SetBytesTakeNone, NamedAreDead, GranulesOfTheDeadLeave, GranulesOfTheDeadDoNotCount, FreedStaysKnown, GranulesOfTheFreedLeave, OthersStayAsTheyAre, FirstByteIsFreed, FreedAgainIsTold, FreedStoresVanish, FreedLoadsTakeOne};
+ghost use Rattle.ob_meaning.specs.MemoryLaws.{LoadsInsideTakeNone, RunsKeepObjectsWhole, RunsKeepOutsidesWhole, OtherGranulesStay, OtherOutsidesStay, OthersStayUndropped, SizesAndLivesStay, AllElseStays, StoredIsLoaded, StoredOutsideIsLoaded, StrayStoresVanish, StrayLoadsTakeOne, UnsetByteTakesOne, SetBytesTakeNone, NamedAreDead, GranulesOfTheDeadLeave, GranulesOfTheDeadDoNotCount, FreedStaysKnown, GranulesOfTheFreedLeave, OthersStayAsTheyAre, FirstByteIsFreed, FreedAgainIsTold, FreedStoresVanish, FreedLoadsTakeOne, KnownAreMoved, KnownAreCompared, KnownAreSubtracted};
 ghost use Rattle.ob_meaning.specs.RunEnds.{RunsEndByThemselves};
 ghost use Rattle.ob_meaning.specs.Lives.{NoneIsFreed, AutomaticsAloneDie, LiveObjectsAloneCount};
 ghost use Rattle.ob_meaning.specs.Shown.{ShownIsLoaded};
@@ -177,8 +177,8 @@ pub fn law_depth()
 
 /// A store through a pointer changes at most one granule of that pointer's object, or one granule outside of it. Each
 /// other granule of that object and of every other stays, and so do sizes, lives and all that is no memory. Of the
-/// granules outside this holds where objects are unlimited, and of a bounded list where it drops nothing: a store
-/// that drops one takes that one away as well.
+/// granules outside this holds where objects are unlimited, and of a bounded list for as long as nothing was
+/// dropped: a store that drops one takes that one away as well.
 pub fn law_stores()
     ensures granules { OtherGranulesStay }
     ensures outsides { OtherOutsidesStay }
@@ -217,7 +217,8 @@ pub fn law_deaths()
 
 /// A heap object that is freed under the second profile stays known, with its size, its block and its out-of-bounds
 /// pointers, while its granules outside leave. Through its pointer a store changes nothing, a load takes exactly one
-/// manufactured value and `free` does nothing; each of them is told.
+/// manufactured value and `free` does nothing; each of them is told. Pointers to live and freed objects alike are
+/// moved, compared and subtracted.
 pub fn law_frees()
     ensures first { FirstByteIsFreed }
     ensures known { FreedStaysKnown }
@@ -226,6 +227,9 @@ pub fn law_frees()
     ensures again { FreedAgainIsTold }
     ensures stores { FreedStoresVanish }
     ensures loads { FreedLoadsTakeOne }
+    ensures moved { KnownAreMoved }
+    ensures compared { KnownAreCompared }
+    ensures subtracted { KnownAreSubtracted }
 {}
 
 /// In no run is an object freed under the first profile. Under the second one automatic objects alone die. The
