@@ -1,5 +1,5 @@
 -- Small images, whose runs the laws tell.
-use Rattle.std.specs.Prelude.{ℕ, pos, negsuc, List, [], ◌∷◌}
+use Rattle.std.specs.Prelude.{ℕ, pos, negsuc, List, [], ◌∷◌, codes}
 use Rattle.ob_words.specs.declared.types.BinOp.TheVariants.{Add, Div, Shr}
 use Rattle.ob_words.specs.declared.types.IntType.TheVariants.{Char as char_type, Int as int_type, Long as long_type, ULong as unsigned_long}
 use Rattle.ob_words.specs.declared.types.Relation.TheVariants.{Lt}
@@ -10,6 +10,7 @@ use Rattle.ob_model.specs.declared.settings.RunSettings.{RunSettings}
 use Rattle.ob_model.specs.declared.values.LoadKind.TheVariants.{Num, Ptr}
 use Rattle.ob_code.specs.declared.image.FunctionRow.{FunctionRow}
 use Rattle.ob_code.specs.declared.image.Image.{Image}
+use Rattle.ob_code.specs.declared.image.NameRow.{NameRow}
 use Rattle.ob_code.specs.declared.image.PointerRow.{PointerRow}
 use Rattle.ob_code.specs.declared.image.StaticRow.{StaticRow}
 use Rattle.ob_code.specs.declared.instructions.Instr.{Instr}
@@ -206,3 +207,63 @@ forgotten =
     image_of 7 64 []
     (Set 3 (pos 5) ∷ Malloc 2 3 ∷ Set 4 (pos 8) ∷ Store (Num char_type) 1 3 2 4 ∷ Free 0 2 ∷ Malloc 2 3 ∷ Load (Num char_type) 2 5 2 4
     ∷ PutChar 5 5 ∷ Set 2 (pos 0) ∷ Return 2 ∷ [])
+
+-- ---- freed objects
+
+-- frees an allocated object, stores 5 in its second byte, and writes what is loaded from there
+abbrev pub using_freed : Image
+using_freed =
+    image_of 7 64 []
+    (Set 3 (pos 5) ∷ Malloc 2 3 ∷ Free 0 2 ∷ Set 4 (pos 1) ∷ Store (Num char_type) 6 3 2 4 ∷ Load (Num char_type) 7 5 2 4 ∷ PutChar 5 5
+    ∷ Set 2 (pos 0) ∷ Return 2 ∷ [])
+
+-- allocates 16 bytes, which take a block of 32, frees them, and writes whether an allocation of no byte then gives null
+abbrev pub allocating_again : Image
+allocating_again =
+    image_of 7 64 []
+    (Set 3 (pos 16) ∷ Malloc 2 3 ∷ Free 0 2 ∷ Set 3 (pos 0) ∷ Malloc 4 3 ∷ Same 5 4 3 ∷ PutChar 5 5 ∷ Return 3 ∷ [])
+
+-- frees an allocated object twice, moves its pointer out of bounds and back to its third byte, and loads from there; gives how far
+-- the pointer then is from the first byte
+abbrev pub freeing_again : Image
+freeing_again =
+    image_of 7 64 []
+    (Set 3 (pos 4) ∷ Malloc 2 3 ∷ Free 0 2 ∷ Free 8 2 ∷ Set 3 (pos 100) ∷ Shift 4 2 3 ∷ Set 3 (negsuc 97) ∷ Shift 4 4 3 ∷ Set 5 (pos 0)
+    ∷ Load (Num char_type) 9 5 4 5 ∷ Difference 2 4 2 (pos 1) ∷ Return 2 ∷ [])
+
+-- stores 5 far past an allocated object, frees it, and writes what is loaded from there
+abbrev pub loading_freed_outside : Image
+loading_freed_outside =
+    image_of 7 64 []
+    (Set 3 (pos 5) ∷ Malloc 2 3 ∷ Set 4 (pos 100) ∷ Store (Num char_type) 1 3 2 4 ∷ Free 0 2 ∷ Load (Num char_type) 2 5 2 4 ∷ PutChar 5 5
+    ∷ Set 2 (pos 0) ∷ Return 2 ∷ [])
+
+-- ---- names
+
+-- stores -7 in the first of two static objects and 41 in a word, makes a pointer, and goes round. Its variables are a number in
+-- a word, a number and an array in bytes, and a pointer in a word
+abbrev pub name_of : ℕ → ℕ → ℕ → ℕ → List ℕ → NameRow
+name_of holder ordinal word kind name = record { holder = holder; ordinal = ordinal; line = 1; word = word; kind = kind; name = name }
+
+abbrev pub named : Image
+named =
+    record {
+      profile = One;
+      statics = static_of 4 ∷ static_of 8 ∷ [];
+      pointers = [];
+      functions =
+          record {
+            entry = 0;
+            params = 0;
+            words = 6;
+            vars = 4;
+            allowance = 96;
+            locals = record { ordinal = 1; place = 48; size = 4 } ∷ record { ordinal = 2; place = 64; size = 10 } ∷ [];
+          } ∷ [];
+      main = 0;
+      code =
+          Static 2 (pos 1) ∷ Set 3 (pos 0) ∷ Set 4 (negsuc 6) ∷ Store (Num int_type) 1 4 2 3 ∷ Set 5 (pos 41) ∷ Local 4 (pos 1) ∷ Tick ∷ Jump (pos 6) ∷ [];
+      names =
+          name_of 0 1 0 5 (codes "g") ∷ name_of 0 2 0 11 (codes "q") ∷ name_of 1 0 5 5 (codes "x") ∷ name_of 1 1 0 5 (codes "y")
+          ∷ name_of 1 2 0 12 (codes "a") ∷ name_of 1 3 4 11 (codes "p") ∷ [];
+    }

@@ -1,4 +1,4 @@
-ghost use Rattle.ob_code.specs.Laws.{HelloIsWritten, ReturnPlaceIsCodeLength, EndlessIsSpent, TicksTakeSteps, JumpsGoByZero, ArgumentsAndResultArrive, CallReturnsAfterItself, StackHoldsTwoHalves, CharIsSigned, DivisionByZeroEnds, DisplacementsAreExact, InputEnds, InputIsBytes, FarPointerHasSlot, PointerComesBack, NullIsFirst, StaticsHoldPointers, HeapStartsAtItsPlace, FreedPlaceIsReused, ArrayHasItsProduct, OtherFreesAreTold, LocalIsStoredAndWiped, StoreVanishesOrIsKept, LeastRecentlyUsedLeaves, VanishesInBothModes, PointerIsStoredWhole, FreedSlotIsReused, DeadGranulesAreForgotten, RunsAreBounded, SpentRunsAreExact};
+ghost use Rattle.ob_code.specs.Laws.{HelloIsWritten, ReturnPlaceIsCodeLength, EndlessIsSpent, TicksTakeSteps, JumpsGoByZero, ArgumentsAndResultArrive, CallReturnsAfterItself, StackHoldsTwoHalves, CharIsSigned, DivisionByZeroEnds, DisplacementsAreExact, InputEnds, InputIsBytes, FarPointerHasSlot, PointerComesBack, NullIsFirst, StaticsHoldPointers, HeapStartsAtItsPlace, FreedPlaceIsReused, ArrayHasItsProduct, OtherFreesAreTold, LocalIsStoredAndWiped, StoreVanishesOrIsKept, LeastRecentlyUsedLeaves, VanishesInBothModes, PointerIsStoredWhole, FreedSlotIsReused, DeadGranulesAreForgotten, FreedAccessIsStray, FreedBlockStays, FreedPointerMoves, FreedGranulesLeave, VariablesShow, EndedRunShowsStatics, ValuesHaveOneWord, RunsAreBounded, SpentRunsAreExact, RunsEndSo, NamesAreUnread};
 
 /// Runs of the machine's definition on small images: steps, jumps, calls and returns.
 pub fn law_control_runs()
@@ -54,4 +54,35 @@ pub fn law_stray_runs()
 pub fn law_runs_are_bounded()
     ensures most { RunsAreBounded }
     ensures spent { SpentRunsAreExact }
+{}
+
+/// Runs on small images under both profiles: a freed object that stays known has stray accesses alone, its
+/// block and its pointers stay, and what was stored outside of it is forgotten.
+pub fn law_freed_runs()
+    ensures accesses { FreedAccessIsStray }
+    ensures block { FreedBlockStays }
+    ensures pointer { FreedPointerMoves }
+    ensures granules { FreedGranulesLeave }
+{}
+
+/// What shows of a run that has no step left, and of one that has ended.
+pub fn law_shown()
+    ensures variables { VariablesShow }
+    ensures ended { EndedRunShowsStatics }
+{}
+
+/// A value has one word at most, unless it is a dead object's pointer.
+pub fn law_one_word()
+    ensures { ValuesHaveOneWord }
+{}
+
+/// No run ends by a fault of a write or for want of memory, and one ends by a fault of a read only where
+/// its input ends in one.
+pub fn law_endings()
+    ensures { RunsEndSo }
+{}
+
+/// A run is the same for each profile that its image names, and whatever names it has.
+pub fn law_names_are_unread()
+    ensures { NamesAreUnread }
 {}

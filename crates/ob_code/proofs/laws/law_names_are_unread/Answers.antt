@@ -1,0 +1,9 @@
+use Rattle.ob_model.specs.Limits.{stack_bytes}
+use Rattle.ob_code.specs.Start.{laid_out}
+use Rattle.ob_code.proofs.Unread.{alike}
+use Rattle.ob_code.proofs.laws.law_names_are_unread.Goals as goal
+
+pub returns : goal.returns
+returns c =
+    λ profile names image settings cycle place input input_end steps.
+    alike profile names (record { image = image; settings = settings; cycle = cycle; input_end = input_end }) (laid_out stack_bytes image.statics image.pointers settings) place input steps
