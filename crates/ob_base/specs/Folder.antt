@@ -12,6 +12,10 @@ use Rattle.ob_base.specs.declared.folder.FileAnswer.TheVariants.{Failed, Long, N
 abbrev pub Files : Type 0
 Files = FinMap (slice_cmp nat_cmp) (List ℕ)
 
+-- what a folder tells that tells nothing
+abbrev pub untold_files : Option Files
+untold_files = None
+
 -- the folder tells its files, and has none of this name
 abbrev pub IsMissing : Option Files → List ℕ → Type 0
 IsMissing None name = ⊥

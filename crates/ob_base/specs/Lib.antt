@@ -3,3 +3,4 @@ pub mod Sink
 pub mod Folder
 pub mod Memory
 pub mod Names
+pub mod Devices

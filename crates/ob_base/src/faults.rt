@@ -29,6 +29,14 @@ impl FaultCount {
         FaultCount { count: 0 }
     }
 
+    /// The count.
+    #[cfg(test)]
+    pub(crate) fn count(&self) -> u64
+        ensures { result ≡ self.now }
+    {
+        self.count
+    }
+
     /// Counts one more fault, unless the count stands at its last value.
     pub(crate) fn raise(&mut self)
         ensures value { self.new ≡ raised self.old }

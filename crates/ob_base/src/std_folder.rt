@@ -1,5 +1,7 @@
-ghost use Rattle.std.specs.Prelude.{◌≡◌, ◌≢◌, ◌<◌, ◌≤◌, length, None, IfOk, IfSome, IsErrOf, vec_len};
+ghost use Rattle.std.specs.Prelude.{◌≡◌, ◌≢◌, ◌<◌, ◌≤◌, length, IfOk, IfSome, IsErrOf, vec_len};
 ghost use Rattle.std.specs.IoError.{error_kind};
+ghost use Rattle.ob_base.specs.Faults.{raised};
+ghost use Rattle.ob_base.specs.Folder.{Loads, CountsLoad, untold_files};
 
 use crate::faults::FaultCount;
 use crate::{FileAnswer, Folder};
@@ -35,17 +37,31 @@ impl<'a, R: Files> StdFolder<'a, R> {
             faults: FaultCount::new(),
         }
     }
+
+    /// The count of faults, for tests.
+    #[cfg(test)]
+    pub(crate) fn faults(&self) -> u64
+        ensures { result ≡ self.now }
+    {
+        self.faults.count()
+    }
 }
 
 impl<'a, R: Files> Folder for StdFolder<'a, R> {
-    ghost files = { λ _. None };
+    ghost files = { λ _. untold_files };
 
     ghost faults = { λ f. f };
 
     /// Reads at most `limit` bytes of the file, and one more to see that it is longer. A file that
     /// isn't there, and any error of opening or reading it but want of memory, is a fault, which
     /// raises the count by one.
-    fn load(&mut self, alloc: Global, name: &str, limit: usize) -> Result<Vec<u8>, FileAnswer> {
+    fn load(&mut self, alloc: Global, name: &str, limit: usize) -> Result<Vec<u8>, FileAnswer>
+        ensures within { IfOk result (λ bytes. vec_len bytes ≤ limit) }
+        ensures bytes { Loads untold_files name.now limit result }
+        ensures kept { untold_files ≡ untold_files }
+        ensures cause { CountsLoad untold_files name.now result self.old self.new }
+        ensures counted { IsErrOf result FileAnswer.Failed → self.new ≡ raised self.old }
+    {
         let answer = load_file(self.rt, alloc, name, limit);
         if let Err(FileAnswer::Failed) = answer {
             self.faults.raise();

@@ -1,5 +1,8 @@
-ghost use Rattle.std.specs.Prelude.{◌≡◌, ◌<◌, ◌≤◌, length, take, None, IfSome, IfNone};
-ghost use Rattle.std.specs.Io.KnownBytes.{Appends, Keeps};
+ghost use Rattle.std.specs.Prelude.{◌≡◌, ◌<◌, ◌≤◌, length, take, IfOk, IfSome, IfNone, OnOk, OnErr};
+ghost use Rattle.std.specs.Io.KnownBytes.{Appends, Keeps, append_known};
+ghost use Rattle.ob_base.specs.Faults.{Rose, raised};
+ghost use Rattle.ob_base.specs.Devices.{untold};
+ghost use Rattle.ob_base.specs.Sink.{no_tally, tally_known};
 
 use crate::faults::FaultCount;
 use crate::{Failed, Sink};
@@ -32,19 +35,37 @@ impl<W: Write> StdSink<W> {
             faults: FaultCount::new(),
         }
     }
+
+    /// The count of faults, for tests.
+    #[cfg(test)]
+    pub(crate) fn faults(&self) -> u64
+        ensures { result ≡ self.now }
+    {
+        self.faults.count()
+    }
 }
 
 impl<W: Write> Sink for StdSink<W> {
-    ghost taken = { λ _. None };
+    ghost taken = { λ _. untold };
 
-    ghost tally = { λ _. None };
+    ghost tally = { λ _. no_tally };
 
     ghost faults = { λ s. s };
 
     /// Writes once to the writer, again where a signal interrupted it. Its other errors are
     /// faults, and so is a write that takes no byte of a piece that isn't empty; each raises the
     /// count by one.
-    fn write(&mut self, piece: &[u8]) -> Result<usize, Failed> {
+    fn write(&mut self, piece: &[u8]) -> Result<usize, Failed>
+        ensures within { IfOk result (λ n. n ≤ length piece.now) }
+        ensures progress { IfOk result (λ n. 0 < length piece.now → 0 < n) }
+        ensures bytes { IfOk result (λ n. untold ≡ append_known untold (take n piece.now)) }
+        ensures tallied { IfOk result (λ n. no_tally ≡ tally_known no_tally (take n piece.now)) }
+        ensures quiet { OnOk result (self.new ≡ self.old) }
+        ensures bytes_kept { OnErr result (untold ≡ untold) }
+        ensures tally_kept { OnErr result (no_tally ≡ no_tally) }
+        ensures cause { OnErr result (Rose self.old self.new) }
+        ensures counted { OnErr result (self.new ≡ raised self.old) }
+    {
         match write_uninterrupted(&mut self.inner, piece) {
             Some(count) => Ok(count),
             None => {
@@ -55,7 +76,7 @@ impl<W: Write> Sink for StdSink<W> {
     }
 }
 
-fn write_uninterrupted<W: Write>(inner: &mut W, piece: &[u8]) -> Option<usize>
+pub(crate) fn write_uninterrupted<W: Write>(inner: &mut W, piece: &[u8]) -> Option<usize>
     ensures within { IfSome result (λ n. n ≤ length piece.now) }
     ensures progress { IfSome result (λ n. 0 < length piece.now → 0 < n) }
     ensures bytes { IfSome result (λ n. Appends (W.contents inner.old) (W.contents inner.new) (take n piece.now)) }

@@ -1,5 +1,7 @@
-ghost use Rattle.std.specs.Prelude.{◌≡◌, ◌<◌, ◌≤◌, length, take, None, IfSome, IfNone};
-ghost use Rattle.std.specs.Io.KnownBytes.{Consumes, IsAtEnd, Keeps};
+ghost use Rattle.std.specs.Prelude.{◌≡◌, ◌<◌, ◌≤◌, length, take, IfOk, IfSome, IfNone, OnOk, OnErr};
+ghost use Rattle.std.specs.Io.KnownBytes.{Consumes, IsAtEnd, Keeps, prepend_known};
+ghost use Rattle.ob_base.specs.Faults.{Rose, raised};
+ghost use Rattle.ob_base.specs.Devices.{untold};
 
 use crate::faults::FaultCount;
 use crate::{Failed, Source};
@@ -31,16 +33,32 @@ impl<R: Read> StdSource<R> {
             faults: FaultCount::new(),
         }
     }
+
+    /// The count of faults, for tests.
+    #[cfg(test)]
+    pub(crate) fn faults(&self) -> u64
+        ensures { result ≡ self.now }
+    {
+        self.faults.count()
+    }
 }
 
 impl<R: Read> Source for StdSource<R> {
-    ghost left = { λ _. None };
+    ghost left = { λ _. untold };
 
     ghost faults = { λ s. s };
 
     /// Reads once from the reader, again where a signal interrupted it. Its other errors are
     /// faults, each of which raises the count by one.
-    fn read(&mut self, buf: &mut [u8]) -> Result<usize, Failed> {
+    fn read(&mut self, buf: &mut [u8]) -> Result<usize, Failed>
+        ensures within { IfOk result (λ n. n ≤ length buf.new) }
+        ensures bytes { IfOk result (λ n. untold ≡ prepend_known (take n buf.new) untold) }
+        ensures end { IfOk result (λ n. n ≡ 0 → 0 < length buf.new → IsAtEnd untold) }
+        ensures quiet { OnOk result (self.new ≡ self.old) }
+        ensures bytes_kept { OnErr result (untold ≡ untold) }
+        ensures cause { OnErr result (Rose self.old self.new) }
+        ensures counted { OnErr result (self.new ≡ raised self.old) }
+    {
         match read_uninterrupted(&mut self.inner, buf) {
             Some(count) => Ok(count),
             None => {
@@ -51,7 +69,7 @@ impl<R: Read> Source for StdSource<R> {
     }
 }
 
-fn read_uninterrupted<R: Read>(inner: &mut R, buf: &mut [u8]) -> Option<usize>
+pub(crate) fn read_uninterrupted<R: Read>(inner: &mut R, buf: &mut [u8]) -> Option<usize>
     ensures within { IfSome result (λ n. n ≤ length buf.new) }
     ensures bytes { IfSome result (λ n. Consumes (R.remaining inner.old) (R.remaining inner.new) (take n buf.new)) }
     ensures end { IfSome result (λ n. n ≡ 0 → 0 < length buf.new → IsAtEnd (R.remaining inner.new)) }

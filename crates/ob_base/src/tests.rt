@@ -1,9 +1,12 @@
 //! What no clause says: that the calls that may lack memory find it, and what the adapters do over
 //! readers, writers and files of std.
 use crate::std_folder::read_limited;
+use crate::std_sink::write_uninterrupted;
+use crate::std_source::read_uninterrupted;
 use crate::{
     Failed, FileAnswer, Folder, MemFolder, MemSink, MemSource, Sink, Source, StdFolder, StdSink,
-    StdSource, Text, write_all,
+    StdSource, Text, boxed_three, boxed_two, boxed_with, let_go, listed, push_on, push_with,
+    with_last, write_all,
 };
 use std::io::{self, Read, Write};
 use std::test::Fail;
@@ -13,7 +16,26 @@ fn texts_grow(rt: HostRuntime) -> Result<(), Fail> {
     let mut text = Text::new(rt.alloc());
     text.push(b'a')?;
     text.add(b"bc")?;
-    assert_eq!(rt; text.bytes(), b"abc".as_slice());
+    let copy = text.copy(rt.alloc())?;
+    text.push(b'd')?;
+    assert_eq!(rt; copy.bytes(), b"abc".as_slice());
+    assert_eq!(rt; text.bytes(), b"abcd".as_slice());
+    Ok(())
+}
+
+/// Each helper that boxes, lists or lets go, at numbers and texts.
+#[test]
+fn values_are_boxed_and_listed(rt: HostRuntime) -> Result<(), Fail> {
+    let alloc = rt.alloc();
+    let (one, two) = boxed_two(alloc, 1u8, 2u16)?;
+    let (first, second, third) = boxed_three(alloc, *one, *two, 3u32)?;
+    let (fourth, kept) = boxed_with(alloc, 4u64, 5u64)?;
+    let mut list = listed(alloc, u64::from(*first))?;
+    push_on(&mut list, u64::from(*second))?;
+    let kept = push_with(&mut list, u64::from(*third), kept)?;
+    let list = with_last(with_last(list, *fourth)?, kept)?;
+    assert_eq!(rt; list.as_slice(), [1, 2, 3, 4, 5].as_slice());
+    let_go(list);
     Ok(())
 }
 
@@ -120,16 +142,34 @@ fn adapters_over_readers_and_writers(rt: HostRuntime) {
     assert_eq!(rt; buf[0], 7);
     assert_eq!(rt; frail.read(&mut buf), Ok(1));
     assert_eq!(rt; frail.read(&mut buf), Err(Failed));
+    assert_eq!(rt; frail.faults(), 1);
 
     // A write that takes no byte of a piece is a fault.
     let mut sink = StdSink::new(Frail { calls: 0, last: 0 });
-    assert_eq!(rt; sink.write(b"xy"), Ok(1));
-    assert_eq!(rt; sink.write(b"y"), Err(Failed));
-    assert_eq!(rt; sink.write(b"y"), Err(Failed));
+    for answer in [Ok(1), Err(Failed), Err(Failed)] {
+        assert_eq!(rt; sink.write(b"xy"), answer);
+    }
+    assert_eq!(rt; sink.faults(), 2);
 
     let mut short = StdSink::new(Frail { calls: 1, last: 0 });
     assert_eq!(rt; write_all(&mut short, b"z"), Ok(()));
     assert_eq!(rt; write_all(&mut short, b"z"), Err(Failed));
+}
+
+/// One call reads or writes once, and says how many bytes that gave or took: no short read is the
+/// end, and no half of a piece is the whole.
+#[test]
+fn adapters_say_what_one_call_did(rt: HostRuntime) {
+    let mut writer = Frail { calls: 1, last: 0 };
+    assert_eq!(rt; write_uninterrupted(&mut writer, b"xyz"), Some(1));
+    assert_eq!(rt; writer.calls, 2);
+    assert_eq!(rt; writer.last, b'x');
+
+    let mut reader = Frail { calls: 1, last: 7 };
+    let mut buf = [0u8; 3];
+    assert_eq!(rt; read_uninterrupted(&mut reader, &mut buf), Some(1));
+    assert_eq!(rt; reader.calls, 2);
+    assert_eq!(rt; buf[0], 7);
 }
 
 #[test]
@@ -145,6 +185,7 @@ fn adapter_over_files(rt: HostRuntime) -> Result<(), Fail> {
         Some(FileAnswer::Failed)
     );
     assert_eq!(rt; folder.load(alloc, ".", 4).err(), Some(FileAnswer::Failed));
+    assert_eq!(rt; folder.faults(), 2);
     Ok(())
 }
 
