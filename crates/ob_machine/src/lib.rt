@@ -20,5 +20,3 @@ mod machine;
 mod ports;
 mod runs;
 mod steps;
-#[cfg(test)]
-mod tests;

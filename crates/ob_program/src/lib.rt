@@ -23,5 +23,3 @@ mod refusal;
 mod settings;
 mod source;
 mod status;
-#[cfg(test)]
-mod tests;

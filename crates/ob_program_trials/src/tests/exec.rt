@@ -3,7 +3,7 @@ ghost use Rattle.std.specs.Prelude.{◌<◌};
 
 use crate::tests::images::{CALLS, DIVIDES, ECHO, HELLO, OPEN, PLACE, STILL, TICKS, image};
 use crate::tests::{ROOM, text, words};
-use crate::top;
+use ob_program::top;
 use ob_base::{MemFolder, MemSink, MemSource, NoMemory};
 use std::alloc::Global;
 use std::test::Fail;

@@ -7,7 +7,7 @@ mod faults;
 mod forms;
 mod images;
 
-use crate::top;
+use ob_program::top;
 use ob_base::{MemFolder, MemSink, MemSource, NoMemory};
 use std::alloc::{AllocError, Global};
 use std::test::Fail;

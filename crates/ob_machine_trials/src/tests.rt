@@ -1,6 +1,6 @@
 //! That the calls find memory, how devices that fail end a run, and that nothing is read after the end.
 
-use crate::Machine;
+use ob_machine::Machine;
 use ob_base::{MemSink, MemSource, Source};
 use ob_code::{FunctionRow, Image, Instr, Rows, Verified, verify};
 use ob_model::{Ending, Mode, RunSettings};
