@@ -5,6 +5,12 @@
 //! Each definition is on whole numbers. A conversion gives the one number of the type that is
 //! congruent modulo 2 ^ width; each operator is computed exactly and converted. The crate stands
 //! on std alone and takes no memory.
+//!
+//! All definitions under `specs/` are to be believed: the types (`Types`), conversion (`Conversion`),
+//! operators (`Operators`), words (`Words`) and fields (`Fields`). The functions of `laws` state what
+//! follows from them. Proofs of crates above also cite three modules of lemmas, which are laws of this
+//! crate: `proofs.Conversions` on conversion, `proofs.Congruence` on congruent numbers, `proofs.Writes`
+//! on fields.
 #![tactic(auto)]
 
 pub use conversion::{convert, number, word};
