@@ -32,7 +32,8 @@ impl ObjectTable {
     /// that it will ever take, in proportion to `most`, and answers `NoMemory` where there is too little.
     pub fn new(alloc: Global, most: usize) -> Result<ObjectTable, NoMemory>
         requires { most ≤ 2 ^ 24 }
-        ensures { IfOk result (λ table. table ≡ record { most = most; entries = [] }) }
+        ensures most { IfOk result (λ table. table.most ≡ most) }
+        ensures empty { IfOk result (λ table. table.entries ≡ []) }
     {
         Ok(ObjectTable {
             most,
@@ -46,17 +47,19 @@ impl ObjectTable {
         requires room { length self.old.entries < self.old.most }
         requires end { e.base + e.size < 2 ^ 63 }
         requires apart { All (AreApart e) self.old.entries }
-        ensures { self.new ≡ record self.old { entries = with_entry e self.old.entries } }
+        ensures entries { self.new.entries ≡ with_entry e self.old.entries }
+        ensures most { self.new.most ≡ self.old.most }
     {
         let count = count_up_to(self.entries.as_slice(), e.base);
         let _ = self.entries.insert(count, e);
     }
 
     /// Takes out the entry at `base` and gives it; `None` exactly where no entry has that base, and then
-    /// the table stays as it was.
+    /// the entries stay.
     pub fn remove(&mut self, base: u64) -> Option<Entry>
         ensures entry { result ≡ at_base base self.old.entries }
-        ensures others { self.new ≡ record self.old { entries = without_base base self.old.entries } }
+        ensures others { self.new.entries ≡ without_base base self.old.entries }
+        ensures most { self.new.most ≡ self.old.most }
     {
         let index = index_of(self.entries.as_slice(), base)?;
         Some(self.entries.remove(index))
@@ -66,7 +69,8 @@ impl ObjectTable {
     /// entries stay.
     pub fn find(&mut self, address: u64) -> Option<Entry>
         ensures entry { result ≡ entry_at address self.old.entries }
-        ensures unchanged { self.new ≡ self.old }
+        ensures kept { self.new.entries ≡ self.old.entries }
+        ensures most { self.new.most ≡ self.old.most }
         ensures in_order { IsInOrder self.new.entries }
     {
         named(self.entries.as_slice(), address)
@@ -74,7 +78,8 @@ impl ObjectTable {
 
     /// Takes out all entries, which gives the state that `new` gave, in the memory that the table has.
     pub fn clear(&mut self)
-        ensures { self.new ≡ record self.old { entries = [] } }
+        ensures empty { self.new.entries ≡ [] }
+        ensures most { self.new.most ≡ self.old.most }
     {
         self.entries.clear();
     }

@@ -3,7 +3,7 @@ use Rattle.std.specs.Prelude.{remove}
 use Rattle.std.proofs.lemmas.List.{get_or_default}
 use Rattle.ob_model.specs.Entries.{without_base}
 use Rattle.ob_model.specs.declared.objects.Entry.{Entry}
-use Rattle.ob_objects.specs.Objects.{Objects, IsInOrder}
+use Rattle.ob_objects.specs.Objects.{IsInOrder}
 use Rattle.ob_objects.proofs.Order.{no_entry}
 use Rattle.ob_objects.proofs.Changes.{at_base-none, at_base-found, without_base-none, without_base-remove, one_base}
 use Rattle.ob_objects.proofs.table.ObjectTable.remove.Goals as goal
@@ -14,8 +14,7 @@ returns-in_err-index-clause-entry c =
 
 pub returns-in_err-index-clause-others : goal.returns-in_err-index-clause-others
 returns-in_err-index-clause-others c =
-    let table : List Entry → Objects = λ xs. record { most = c.self.inside.most; entries = xs } in
-    rw (← c.self.view_is, ← c.as_slice.ensures.value) (ap table (sym (without_base-none c.args.base c.as_slice.result.now c.in_err-index.ensures)))
+    rw (← c.self.view_is, ← c.as_slice.ensures.value) (sym (without_base-none c.args.base c.as_slice.result.now c.in_err-index.ensures))
 
 pub returns-clause-entry : goal.returns-clause-entry
 returns-clause-entry c =
@@ -30,10 +29,9 @@ returns-clause-entry c =
 pub returns-clause-others : goal.returns-clause-others
 returns-clause-others c =
     let in_order : IsInOrder c.as_slice.result.now = rw c.as_slice.ensures.value c.self.invariant.in_order in
-    let table : List Entry → Objects = λ xs. record { most = c.self.inside.most; entries = xs } in
     let removed : c.remove.new.self.items ≡ without_base c.args.base c.as_slice.result.now =
     c.remove.ensures.items
     ∙ ap (λ (xs : List Entry). remove xs c.in_ok-index.index) (sym c.as_slice.ensures.value)
     ∙ sym (without_base-remove c.args.base c.as_slice.result.now c.in_ok-index.index c.in_ok-index.ensures.0 c.in_ok-index.ensures.1
     (one_base c.as_slice.result.now c.in_ok-index.index c.args.base in_order c.in_ok-index.ensures.0 c.in_ok-index.ensures.1)) in
-    rw (← c.self.view_is, ← c.as_slice.ensures.value) (ap table removed)
+    rw (← c.self.view_is, ← c.as_slice.ensures.value) removed
