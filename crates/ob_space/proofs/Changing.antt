@@ -8,7 +8,8 @@ use Rattle.ob_code.specs.declared.image.PointerRow.{PointerRow}
 use Rattle.ob_code.specs.declared.image.StaticRow.{StaticRow}
 use Rattle.ob_code.specs.Frames.{top_base, with_word}
 use Rattle.ob_code.specs.Rules.{AreSound, IsPointerSound, IsVerified}
-use Rattle.ob_code.specs.Unbuilt.{IsBuilt, IsStaticBuilt}
+use Rattle.ob_code.specs.Limits.{most_pointers}
+use Rattle.ob_space.specs.Unbuilt.{IsBuilt}
 use Rattle.ob_space.specs.declared.calls.Active.{Active}
 use Rattle.ob_space.specs.Calls.{call_in, calls_in}
 use Rattle.ob_space.specs.Kept.{HasStack, IsKept, space_in}
@@ -54,18 +55,14 @@ left_on_stack functions heap m before after a taken end kept is =
 
 -- ---- an image without static objects
 
-empty_statics : (rows : List StaticRow) → ((i : ℕ) → i < length rows → IsStaticBuilt) → rows ≡ []
-empty_statics [] built = refl
-empty_statics (r ∷ rs) built = absurd (built 0 (omega arith))
-
-empty_pointers : (statics : List StaticRow) (rows : List PointerRow) → statics ≡ [] → AreSound 524288 (length rows) (IsPointerSound statics rows) → rows ≡ []
+empty_pointers : (statics : List StaticRow) (rows : List PointerRow) → statics ≡ [] → AreSound most_pointers (length rows) (IsPointerSound statics rows) → rows ≡ []
 empty_pointers statics [] none sound = refl
 empty_pointers statics (r ∷ rs) none sound =
     let nothing : length statics ≡ 0 = ap (λ (xs : List StaticRow). length xs) none in
     absurd (omega (arith, (sound.each 0 (omega arith)).holder.exists))
 
 pub no_statics : (image : Image) → IsBuilt image → image.statics ≡ []
-no_statics image built = empty_statics image.statics built.statics
+no_statics image built = built.statics
 
 pub no_pointers : (image : Image) → IsVerified image → IsBuilt image → image.pointers ≡ []
 no_pointers image verified built = empty_pointers image.statics image.pointers (no_statics image built) verified.pointers

@@ -3,6 +3,7 @@
 use Rattle.std.specs.Prelude.{◌≡◌, ℕ, ◌<◌, ◌≤◌, List, [], length}
 use Rattle.std.specs.Global.{Vec}
 use Rattle.std.specs.Vec.{vec_capacity}
+use Rattle.ob_model.specs.Limits.{stack_bytes}
 use Rattle.ob_flat.specs.Memory.{Memory, IsLaidOut}
 use Rattle.ob_code.specs.declared.image.FunctionRow.{FunctionRow}
 use Rattle.ob_code.specs.Frames.{allowances, function_at, next_base}
@@ -24,7 +25,7 @@ pub record CanBeCalled (f : FunctionRow) : Type 0 where
 -- the memory has a whole stack, and no static objects yet
 pub record HasStack (m : Memory) : Type 0 where
   pub statics : m.statics ≡ 0
-  pub stack : m.stack ≡ 1048576
+  pub stack : m.stack ≡ stack_bytes
   pub laid_out : IsLaidOut m
 
 -- frames lie one behind another and have their link words; `end` is where the next one begins. The stack has room for the
@@ -36,6 +37,6 @@ pub record IsKept (functions : List FunctionRow) (heap : ℕ) (m : Memory) (acti
   pub stacked : AreStacked functions (calls_in m active.items)
   pub linked : AllHaveLinks m (calls_in m active.items)
   pub sum : taken ≡ allowances functions (calls_in m active.items)
-  pub room : taken ≤ 1048576
+  pub room : taken ≤ stack_bytes
   pub next : end ≡ next_base functions (calls_in m active.items)
   pub capacity : 65536 ≤ vec_capacity active

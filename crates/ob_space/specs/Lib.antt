@@ -1,3 +1,4 @@
+pub mod Unbuilt
 pub mod Calls
 pub mod Writes
 pub mod Links

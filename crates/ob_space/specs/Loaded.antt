@@ -6,7 +6,8 @@ use Rattle.ob_code.specs.declared.image.Image.{Image}
 use Rattle.ob_code.specs.declared.image.PointerRow.{PointerRow}
 use Rattle.ob_code.specs.declared.image.StaticRow.{StaticRow}
 use Rattle.ob_code.specs.Frames.{entered, is_full, left_call, top_function}
-use Rattle.ob_code.specs.Start.{laid_out, stack_bytes}
+use Rattle.ob_model.specs.Limits.{stack_bytes}
+use Rattle.ob_code.specs.Start.{laid_out}
 use Rattle.ob_code.specs.State.{Call, Space}
 
 pub record Loaded : Type 0 where

@@ -1,16 +1,17 @@
 -- Writes to the stack, and what they leave as it was.
 use Rattle.std.specs.Prelude.{◌≡◌, ℕ, ◌+◌, ◌≤◌, ◌⊎◌}
+use Rattle.ob_model.specs.Limits.{stack_bytes, stack_start}
 use Rattle.ob_flat.specs.Memory.{Memory, IsIn, field, with_field, with_zeros}
 
 -- n bytes from an address on lie on the stack
 pub record IsOnStack (address n : ℕ) : Type 0 where
-  pub begins : 16777216 ≤ address
-  pub ends : address + n ≤ 16777216 + 1048576
+  pub begins : stack_start ≤ address
+  pub ends : address + n ≤ stack_start + stack_bytes
 
 -- words of the stack that end at or before an address stay as they were
 abbrev pub KeepsBelow : Memory → Memory → ℕ → Type 0
 KeepsBelow old new end =
-    (address : ℕ) → 16777216 ≤ address → address + 8 ≤ end → field new address 8 ≡ field old address 8
+    (address : ℕ) → stack_start ≤ address → address + 8 ≤ end → field new address 8 ≡ field old address 8
 
 -- a frame of zero bytes with its link words
 abbrev pub frame_opened : ℕ → ℕ → ℕ → ℕ → Memory → Memory

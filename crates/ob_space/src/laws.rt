@@ -2,8 +2,11 @@
 
 ghost use Rattle.ob_space.specs.Laws.{LeaveGivesItsLink, FramesLieInARow, LinksLieFirst, OldBytesAreGone};
 
-/// Leaving a call gives the place that entering it was given, whatever was written to its frame and
-/// whatever other calls came and went.
+/// In the definition, leaving a call gives the place that entering it was given, whatever words were
+/// written and whatever other calls came and went. This speaks of the definition's list of calls, which
+/// has each place beside the bytes; the words of `Between` may be any, links too. That the bytes of a
+/// frame keep the place is promised elsewhere: the view of `Space` takes its list of calls from the link
+/// words in its bytes, and each of its calls but `clear` keeps them, by the clause `KeepsLinks`.
 pub fn law_links()
     ensures { LeaveGivesItsLink }
 {}

@@ -3,6 +3,7 @@ ghost use Rattle.ob_model.specs.Settings.{IsFit};
 ghost use Rattle.ob_code.specs.Frames.{frame_word, top_base, with_word};
 ghost use Rattle.ob_space.specs.Links.{KeepsLinks};
 ghost use Rattle.ob_space.specs.Writes.{WritesWord};
+ghost use Rattle.ob_space.specs.Unbuilt.{IsBuilt};
 ghost use Rattle.ob_space.specs.Loaded.{loaded, cleared, top_words, Enters, IsRefused, top_link, left};
 
 use crate::calls::{Active, add_call, top_base};
@@ -56,9 +57,10 @@ impl Model for Space {
 impl Space {
     /// The memory of an image under these settings: its static objects are laid out, and no call is in
     /// progress. Takes all the memory that it will ever take, and answers `NoMemory` where there is too
-    /// little.
+    /// little. The image has to be one that the machine runs, as `is_built` tells.
     pub fn new(alloc: Global, v: &Verified, settings: &RunSettings) -> Result<Space, NoMemory>
-        requires { IsFit settings.now }
+        requires settings { IsFit settings.now }
+        requires image { IsBuilt v.now }
         ensures { IfOk result (λ space. space ≡ loaded v.now settings.now) }
     {
         let image = v.image();

@@ -3,9 +3,9 @@ ghost use Rattle.ob_code.specs.Frames.{function_at};
 ghost use Rattle.ob_space.specs.Examples.{functions};
 ghost use Rattle.ob_space.specs.Loaded.{top_words};
 
-use crate::{Space, StackFull};
+use crate::{Space, StackFull, is_built};
 use ob_code::{FunctionRow, Image, Instr, Rows, Verified, verify};
-use ob_model::{Mode, RunSettings};
+use ob_model::{Mode, Profile, RunSettings};
 use std::alloc::{AllocError, Global};
 use std::process::Abort;
 use std::test::Fail;
@@ -34,11 +34,13 @@ fn image(alloc: Global) -> Result<Image, AllocError>
     functions.push(function(alloc, 2, 2, 16))?;
     let code = [Instr::Return { b: 0 }; 3];
     Ok(Image {
+        profile: Profile::One,
         statics: Rows::from_vec(Vec::new(alloc)),
         pointers: Rows::from_vec(Vec::new(alloc)),
         functions: Rows::from_vec(functions),
         main: 0,
         code: Rows::from_vec(Vec::from_slice(alloc, &code)?),
+        names: Rows::from_vec(Vec::new(alloc)),
     })
 }
 
@@ -52,10 +54,12 @@ fn space(rt: &impl Abort, alloc: Global, heap: u64) -> Result<Space, Fail>
         store: 1_048_576,
         away: 1_048_576,
         heap,
+        profile: Profile::One,
     };
     let verified = verify(image(alloc)?)
         .ok()
         .expect(rt, "the image keeps the rules");
+    assert_eq!(rt; is_built(&verified), true);
     Ok(Space::new(alloc, &verified, &settings)?)
 }
 
