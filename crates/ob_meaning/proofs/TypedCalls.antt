@@ -1,9 +1,10 @@
 -- Calls give values of their types, and runs begin in typed worlds.
-use Rattle.std.proofs.Common.{ℕ, zero, suc, ◌+◌, ◌/◌, Bool, true, false, nat_lt, pos, List, [], ◌∷◌, length, map, drop, slice_index_or, slice_set, All, refl, sym, subst, ap}
+use Rattle.std.proofs.Common.{ℕ, zero, suc, ◌+◌, ◌/◌, Bool, true, false, nat_lt, pos, List, [], ◌∷◌, length, map, drop, slice_index_or, slice_set, All, arith, refl, sym, subst, ap}
 use Rattle.std.proofs.lemmas.List.Elements.{All-append, All-cons, All-map, All-nil, All-set}
+use Rattle.std.proofs.lemmas.Int.{ints}
 use Rattle.ob_words.specs.declared.types.IntType.{IntType}
+use Rattle.ob_words.specs.declared.types.IntType.TheVariants as type
 use Rattle.ob_words.specs.Types.{IsNumber}
-use Rattle.ob_words.proofs.Ranges.{range_is}
 use Rattle.ob_model.specs.declared.endings.Ending.TheVariants.{Stack}
 use Rattle.ob_model.specs.declared.objects.Sort.TheVariants.{Automatic}
 use Rattle.ob_model.specs.declared.values.Value.{Value}
@@ -50,7 +51,17 @@ automatic_holds structs (t ∷ ts) (v ∷ vs) h =
 -- ---- return
 
 zero_is : (t : IntType) → IsNumber t (pos 0)
-zero_is t = record { from_least = (range_is t).at_most_zero; below_past = (range_is t).above_zero }
+zero_is type.Char = record { from_least = omega (arith, ints); below_past = omega (arith, ints) }
+zero_is type.SChar = record { from_least = omega (arith, ints); below_past = omega (arith, ints) }
+zero_is type.UChar = record { from_least = omega (arith, ints); below_past = omega (arith, ints) }
+zero_is type.Short = record { from_least = omega (arith, ints); below_past = omega (arith, ints) }
+zero_is type.UShort = record { from_least = omega (arith, ints); below_past = omega (arith, ints) }
+zero_is type.Int = record { from_least = omega (arith, ints); below_past = omega (arith, ints) }
+zero_is type.UInt = record { from_least = omega (arith, ints); below_past = omega (arith, ints) }
+zero_is type.Long = record { from_least = omega (arith, ints); below_past = omega (arith, ints) }
+zero_is type.ULong = record { from_least = omega (arith, ints); below_past = omega (arith, ints) }
+zero_is type.LLong = record { from_least = omega (arith, ints); below_past = omega (arith, ints) }
+zero_is type.ULLong = record { from_least = omega (arith, ints); below_past = omega (arith, ints) }
 
 null_is : (ty : PlainType) → HasClass (class_of ty) (null_of (kind_of ty))
 null_is (Int t) = zero_is t
