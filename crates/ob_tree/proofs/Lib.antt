@@ -1,4 +1,6 @@
 pub mod Lists
+pub mod KeptLayouts
+pub mod KeptRows
 pub mod ProgramRows
 pub mod Rows
 pub mod Examples

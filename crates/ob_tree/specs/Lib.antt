@@ -14,6 +14,8 @@ pub mod ProgramView
 pub mod Types
 pub mod TypeView
 pub mod Sizes
+pub mod StructLayouts
+pub mod StructsView
 pub mod Parts
 pub mod Levels
 pub mod Integers

@@ -4,8 +4,7 @@ use Rattle.ob_tree.specs.declared.types.CType as from
 use Rattle.ob_tree.specs.declared.types.CType.{CType}
 use Rattle.ob_tree.specs.declared.types.MemberRow.{MemberRow}
 use Rattle.ob_tree.specs.declared.types.StructRow.{StructRow}
-use Rattle.ob_tree.specs.declared.types.Structs.{Structs}
-use Rattle.ob_tree.specs.Types.{PlainType, PlainMember, PlainStruct, PlainStructs}
+use Rattle.ob_tree.specs.Types.{PlainType, PlainMember, PlainStruct}
 
 abbrev pub plain_type : CType → PlainType
 plain_type from.Void = PlainType.Void
@@ -20,8 +19,8 @@ plain_types ts = map plain_type ts
 abbrev pub plain_member : MemberRow → PlainMember
 plain_member m = record { name = m.name; ty = plain_type m.ty }
 
-abbrev pub plain_struct : StructRow → PlainStruct
-plain_struct r = record { complete = r.complete; members = map plain_member r.members.items }
+abbrev pub plain_members : List MemberRow → List PlainMember
+plain_members ms = map plain_member ms
 
-abbrev pub plain_structs : Structs → PlainStructs
-plain_structs s = map plain_struct s.rows.items
+abbrev pub plain_struct : StructRow → PlainStruct
+plain_struct r = record { complete = r.complete; members = plain_members r.members.items }

@@ -11,8 +11,9 @@ pub use program_spelling::spell;
 pub use programs::{
     BlockItem, FileDecl, ForStart, Item, ItemNode, Local, Param, Params, Program, Stmt, StmtNode,
 };
+pub use structs::Structs;
 pub use tokens::{Keyword, Sign, Span, Token, TokenKind};
-pub use types::{CType, MemberRow, StructRow, Structs};
+pub use types::{CType, MemberRow, StructLayout, StructRow};
 
 mod constants;
 mod expressions;
@@ -22,6 +23,7 @@ mod one_tree;
 mod program_spelling;
 mod programs;
 mod spelling;
+mod structs;
 #[cfg(test)]
 mod tests;
 mod tokens;

@@ -1,8 +1,10 @@
+ghost use Rattle.std.specs.Prelude.{◌≤◌};
+
 use ob_base::Text;
 use ob_words::IntType;
 
 /// A type (C99 6.2.5): `void`, an integer type, a pointer to a type, an array of so many elements
-/// of a type, or a structure, by the number of its row in [`Structs`], counted from 0.
+/// of a type, or a structure, by the number of its row in [`crate::Structs`], counted from 0.
 #[derive(Drop)]
 pub enum CType {
     Void,
@@ -10,13 +12,6 @@ pub enum CType {
     Pointer(Box<CType>),
     Array(Box<CType>, u64),
     Struct(u32),
-}
-
-/// The structure types of a program (C99 6.7.2.1): one row for each, in the order in which they are
-/// declared.
-#[derive(Drop)]
-pub struct Structs {
-    pub rows: Vec<StructRow>,
 }
 
 /// A structure type: whether its members are known, and those in order. A row that isn't complete
@@ -32,4 +27,24 @@ pub struct StructRow {
 pub struct MemberRow {
     pub name: Text,
     pub ty: CType,
+}
+
+/// What a complete structure takes: its bytes, at most 4,194,304, their alignment, and how many numbers
+/// and pointers they are (C99 6.5.3.4, 6.7.2.1).
+#[derive(Clone, Copy, Debug, PartialEq, Eq)]
+pub struct StructLayout {
+    pub size: u64,
+    pub align: u64,
+    pub scalars: u64,
+    ghost align_some: { 1 ≤ align },
+    ghost align_few: { align ≤ 8 },
+    ghost size_few: { size ≤ 4194304 },
+    ghost scalars_few: { scalars ≤ size },
+}
+
+/// A row, and its layout from its completion on.
+#[derive(Drop)]
+pub(crate) struct KeptRow {
+    pub row: StructRow,
+    pub layout: Option<StructLayout>,
 }
