@@ -11,10 +11,9 @@ use Rattle.std.proofs.Common.{subst}
 use Rattle.std.proofs.lemmas.List.{length-map, get_or-map}
 use Rattle.ob_tree.specs.declared.types.CType.{CType}
 use Rattle.ob_tree.specs.declared.types.MemberRow.{MemberRow}
-use Rattle.ob_tree.specs.declared.types.Structs.{Structs}
 use Rattle.ob_tree.specs.Types.{PlainType, PlainMember, PlainStructs}
-use Rattle.ob_tree.specs.TypeView.{plain_type, plain_member, plain_struct, plain_structs}
-use Rattle.ob_tree.specs.Sizes.{IsComplete, fits_object, Layout, no_layout, layout, struct_layout, most_bytes, laid, appended, repeated, type_layout, members_layout}
+use Rattle.ob_tree.specs.TypeView.{plain_type, plain_member}
+use Rattle.ob_tree.specs.Sizes.{IsComplete, fits_object, Layout, no_layout, most_bytes, laid, appended, repeated, type_layout, members_layout}
 use Rattle.ob_layout.specs.Capped.{capped, cap}
 use Rattle.ob_layout.specs.Spread.{innermost, spread}
 use Rattle.ob_layout.proofs.Caps.{capped_repeated, capped_twice, capped_appended, capped_appended_before, capped_padded, same_layout}
@@ -110,9 +109,6 @@ pub stop : (known : ℕ → Option Layout) (all : Option Layout) (l : Layout) (x
 stop known all l xs i m within is before h =
     member_stop known l (map plain_member (drop (i + 1) xs)) (type_layout known (plain_type m.ty)) h
     ∙ sym (before ∙ ap (option_map capped) (dropped known l xs i m within is))
-
-pub deep_enough : (s : Structs) (n : ℕ) (t : PlainType) → n ≡ length s.rows.items → option_map capped (type_layout (struct_layout n (plain_structs s)) t) ≡ option_map capped (layout (plain_structs s) t)
-deep_enough s n t h = ap (λ m. option_map capped (type_layout (struct_layout m (plain_structs s)) t)) (h ∙ sym (length-map s.rows.items plain_struct))
 
 pub laid_some : (l : Layout) (o : Option Layout) → Some l ≡ option_map capped o → l ≡ capped (laid o)
 laid_some l None h = absurd (none-some l (sym h))

@@ -1,6 +1,6 @@
 -- Layouts whose counts stop at one more than an object may have, so that they never overflow.
-use Rattle.std.specs.Prelude.{ℕ, min}
-use Rattle.ob_tree.specs.Sizes.{Layout, MemberPlace}
+use Rattle.std.specs.Prelude.{ℕ, min, if◌then◌else◌, Option, None}
+use Rattle.ob_tree.specs.Sizes.{Layout, MemberPlace, fits_object}
 use Rattle.ob_layout.specs.declared.counted.Counted.{Counted}
 
 abbrev pub cap : ℕ
@@ -12,6 +12,10 @@ capped l = record { size = min l.size cap; align = l.align; scalars = min l.scal
 -- a counted layout as what it stands for
 abbrev pub shown : Counted → Layout
 shown l = record { size = l.size; align = l.align; scalars = l.scalars }
+
+-- a layout that is small enough for an object
+abbrev pub object_layout : Option Layout → Option Layout
+object_layout o = if fits_object o then o else None
 
 -- a member's offset and index
 abbrev pub placed : MemberPlace → ℕ × ℕ

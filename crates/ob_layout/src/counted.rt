@@ -1,5 +1,7 @@
-ghost use Rattle.std.specs.Prelude.{◌≡◌, ◌≤◌, ◌+◌, ◌*◌, min};
+ghost use Rattle.std.specs.Prelude.{◌≡◌, ◌≤◌, ◌+◌, ◌*◌, Some, min, option_map};
 ghost use Rattle.ob_tree.specs.Sizes.{appended, next_offset, padded, repeated, scalar, no_layout, round_up};
+
+use ob_tree::StructLayout;
 
 /// One more than the greatest size of an object: counts stop here.
 const CAP: u64 = 4_194_305;
@@ -17,7 +19,8 @@ pub(crate) struct Counted {
 }
 
 impl Counted {
-    ghost use Rattle.ob_layout.specs.Capped.{capped, shown};
+    ghost use Rattle.ob_tree.specs.StructLayouts.{shown_layout};
+    ghost use Rattle.ob_layout.specs.Capped.{capped, object_layout, shown};
 
     /// Nothing.
     pub(crate) fn none() -> Counted
@@ -40,6 +43,17 @@ impl Counted {
             size: bytes,
             align: bytes,
             scalars: 1,
+        }
+    }
+
+    /// What a complete structure takes.
+    pub(crate) fn of_struct(l: StructLayout) -> Counted
+        ensures { shown result ≡ capped (shown_layout l) }
+    {
+        Counted {
+            size: l.size,
+            align: l.align,
+            scalars: l.scalars,
         }
     }
 
@@ -87,6 +101,21 @@ impl Counted {
             size,
             align: self.align,
             scalars: self.scalars,
+        }
+    }
+
+    /// The layout, where it is small enough for an object.
+    pub(crate) fn object(&self) -> Option<StructLayout>
+        ensures { option_map shown_layout result ≡ object_layout (Some (shown self.now)) }
+    {
+        if self.size < CAP {
+            Some(StructLayout {
+                size: self.size,
+                align: self.align,
+                scalars: self.scalars,
+            })
+        } else {
+            None
         }
     }
 }

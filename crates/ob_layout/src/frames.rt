@@ -1,6 +1,7 @@
 ghost use Rattle.std.specs.Prelude.{◌≡◌, ◌≤◌, length};
 ghost use Rattle.std.specs.List.{All};
-ghost use Rattle.ob_tree.specs.TypeView.{plain_structs, plain_types};
+ghost use Rattle.ob_tree.specs.TypeView.{plain_types};
+ghost use Rattle.ob_tree.specs.StructsView.{plain_structs};
 ghost use Rattle.ob_tree.specs.Sizes.{IsComplete, allowance};
 
 use crate::sizes::size;

@@ -1,7 +1,8 @@
-ghost use Rattle.std.specs.Prelude.{◌≡◌, ◌≤◌, option_map, length, slice_get};
+ghost use Rattle.std.specs.Prelude.{◌≡◌, ◌≤◌, option_map, length};
 ghost use Rattle.std.specs.Str.{bytes_eq};
 ghost use Rattle.ob_tree.specs.Types.{PlainType};
-ghost use Rattle.ob_tree.specs.TypeView.{plain_struct, plain_structs};
+ghost use Rattle.ob_tree.specs.TypeView.{plain_struct};
+ghost use Rattle.ob_tree.specs.StructsView.{plain_structs};
 ghost use Rattle.ob_tree.specs.Sizes.{IsComplete, member, member_from, no_layout, struct_layout};
 ghost use Rattle.ob_layout.specs.Capped.{capped_place, placed, shown, capped_pair};
 
@@ -17,16 +18,10 @@ pub fn member(s: &Structs, number: u32, name: &Text) -> Option<(u64, usize)>
     requires { IsComplete (plain_structs s.now) (PlainType.Struct number) }
     ensures { result ≡ option_map placed (member (plain_structs s.now) number name.now) }
 {
-    match row(s, number) {
+    match s.row(number) {
         Some(row) => find(s, row, name),
         None => None,
     }
-}
-
-fn row(s: &Structs, number: u32) -> Option<&StructRow>
-    ensures { option_map (λ row. row.now) result ≡ slice_get s.now.rows.items number }
-{
-    s.rows.get(number as usize)
 }
 
 /// The member of a name in a row, its offset up to the cap.

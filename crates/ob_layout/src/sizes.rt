@@ -1,13 +1,14 @@
-ghost use Rattle.std.specs.Prelude.{◌≡◌, ◌≤◌, IsFalse, option_map};
+ghost use Rattle.std.specs.Prelude.{◌≡◌, ◌≤◌, IsFalse, option_map, length};
 ghost use Rattle.ob_words.specs.Types.{width};
 ghost use Rattle.ob_tree.specs.Types.{PlainType};
-ghost use Rattle.ob_tree.specs.TypeView.{plain_type, plain_struct, plain_structs};
-ghost use Rattle.ob_tree.specs.Sizes.{IsComplete, align, scalars, size, has_size, is_complete, laid, layout, int_size, members_layout, no_layout, struct_layout, type_layout};
+ghost use Rattle.ob_tree.specs.TypeView.{plain_members, plain_type};
+ghost use Rattle.ob_tree.specs.StructsView.{plain_structs};
+ghost use Rattle.ob_tree.specs.Sizes.{IsComplete, align, scalars, size, has_size, is_complete, laid, layout, int_size, members_layout, no_layout, struct_layout};
 ghost use Rattle.ob_layout.specs.Capped.{capped, shown};
 ghost use Rattle.ob_layout.specs.Spread.{innermost, is_array, spread};
 
 use crate::counted::Counted;
-use ob_tree::{CType, StructRow, Structs};
+use ob_tree::{CType, MemberRow, Structs};
 use ob_words::{IntType, width};
 
 /// The bytes of an object of type `t`, at most 4,194,304 (C99 6.5.3.4). `t` is complete: it isn't
@@ -42,14 +43,14 @@ pub fn leaves(s: &Structs, t: &CType) -> u64
 pub fn has_size(s: &Structs, t: &CType) -> bool
     ensures { result ≡ has_size (plain_structs s.now) (plain_type t.now) }
 {
-    type_layout(s, s.rows.len(), t).is_some()
+    type_layout(s, t).is_some()
 }
 
 /// Whether type `t` is complete: it has a size, of at most 4,194,304 bytes.
 pub fn is_complete(s: &Structs, t: &CType) -> bool
     ensures { result ≡ is_complete (plain_structs s.now) (plain_type t.now) }
 {
-    match type_layout(s, s.rows.len(), t) {
+    match type_layout(s, t) {
         Some(l) => l.size <= 4_194_304,
         None => false,
     }
@@ -66,65 +67,54 @@ fn complete(s: &Structs, t: &CType) -> Counted
 pub(crate) fn laid(s: &Structs, t: &CType) -> Counted
     ensures { shown result ≡ capped (laid (layout (plain_structs s.now) (plain_type t.now))) }
 {
-    match type_layout(s, s.rows.len(), t) {
+    match type_layout(s, t) {
         Some(l) => l,
         None => Counted::none(),
     }
 }
 
-/// The layout of a type, where structures hold each other at most `depth` deep.
-#[cycle(layouts)]
+/// The layout of a type.
 #[tactic(auto, using(crate::proofs::Layouts::spread_some, crate::proofs::Layouts::spread_none))]
-pub(crate) fn type_layout(s: &Structs, depth: usize, t: &CType) -> Option<Counted>
-    ensures { option_map shown result ≡ option_map capped (type_layout (struct_layout depth (plain_structs s.now)) (plain_type t.now)) }
+pub(crate) fn type_layout(s: &Structs, t: &CType) -> Option<Counted>
+    ensures { option_map shown result ≡ option_map capped (layout (plain_structs s.now) (plain_type t.now)) }
 {
-    match elements_layout(s, depth, innermost(t)) {
+    match elements_layout(s, innermost(t)) {
         Some(l) => Some(spread(t, l)),
         None => None,
     }
 }
 
 /// The layout of a type that is no array.
-#[cycle(layouts)]
-fn elements_layout(s: &Structs, depth: usize, t: &CType) -> Option<Counted>
+fn elements_layout(s: &Structs, t: &CType) -> Option<Counted>
     requires { IsFalse (is_array (plain_type t.now)) }
-    ensures { option_map shown result ≡ option_map capped (type_layout (struct_layout depth (plain_structs s.now)) (plain_type t.now)) }
+    ensures { option_map shown result ≡ option_map capped (layout (plain_structs s.now) (plain_type t.now)) }
 {
     match t {
         CType::Void => None,
         CType::Int(kind) => Some(Counted::scalar(int_size(*kind))),
         CType::Pointer(_) => Some(Counted::scalar(8)),
         CType::Array(_, _) => None,
-        CType::Struct(number) => struct_layout(s, depth, *number),
+        CType::Struct(number) => struct_layout(s, *number),
     }
 }
 
-/// The layout of the structure of a number, where structures hold each other at most `depth` deep.
-#[cycle(layouts)]
-fn struct_layout(s: &Structs, depth: usize, number: u32) -> Option<Counted>
-    ensures { option_map shown result ≡ option_map capped (struct_layout depth (plain_structs s.now) number) }
+/// The layout of the structure of a number, which is looked up.
+fn struct_layout(s: &Structs, number: u32) -> Option<Counted>
+    ensures { option_map shown result ≡ option_map capped (struct_layout (length (plain_structs s.now)) (plain_structs s.now) number) }
 {
-    if depth == 0 {
-        return None;
-    }
-    match s.rows.get(number as usize) {
-        Some(row) => if row.complete {
-            members_layout(s, depth - 1, row)
-        } else {
-            None
-        },
+    match s.layout(number) {
+        Some(l) => Some(Counted::of_struct(l)),
         None => None,
     }
 }
 
 /// The layout of a structure's members and of the padding behind them.
-#[cycle(layouts)]
-fn members_layout(s: &Structs, depth: usize, row: &StructRow) -> Option<Counted>
-    ensures { option_map shown result ≡ option_map capped (members_layout (struct_layout depth (plain_structs s.now)) no_layout (plain_struct row.now).members) }
+pub(crate) fn members_layout(s: &Structs, members: &Vec<MemberRow>) -> Option<Counted>
+    ensures { option_map shown result ≡ option_map capped (members_layout (struct_layout (length (plain_structs s.now)) (plain_structs s.now)) no_layout (plain_members members.now.items)) }
 {
     let mut before = Counted::none();
-    for member in &row.members {
-        match type_layout(s, depth, &member.ty) {
+    for member in members {
+        match type_layout(s, &member.ty) {
             Some(l) => before = before.append(&l),
             None => return None,
         }

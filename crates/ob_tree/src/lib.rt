@@ -1,5 +1,6 @@
 //! The tokens of a source text and the faults that it can have, the trees of the grammar, and the
-//! tokens that a tree spells (C99 6.4 to 6.9). Stands on `ob_base` and `ob_words`.
+//! tokens that a tree spells (C99 6.4 to 6.9). Stands on `ob_base` and `ob_words`. The lemmas of `KeptLayouts`,
+//! on structures that get more structures and members, are laws that proofs of other crates may cite.
 #![tactic(auto)]
 
 pub use constants::{Base, Suffix};

@@ -1,6 +1,6 @@
 use Rattle.std.proofs.Common.{rules, ◌≡◌, ◌<◌, length, get_or, arith}
 use Rattle.std.proofs.lemmas.Grind.{common_steps}
-use Rattle.ob_tree.specs.TypeView.{plain_structs}
+use Rattle.ob_tree.specs.StructsView.{plain_structs}
 use Rattle.ob_layout.proofs.Layouts.{complete_at}
 use Rattle.ob_layout.proofs.frames.allowance.Goals as goal
 

@@ -1,7 +1,8 @@
 use Rattle.std.proofs.Common.{◌≡◌, ◌≤◌, ◌+◌, ◌*◌, map, take}
 use Rattle.std.specs.Prelude.{sum}
 use Rattle.ob_words.specs.Words.{block}
-use Rattle.ob_tree.specs.TypeView.{plain_structs, plain_type}
+use Rattle.ob_tree.specs.TypeView.{plain_type}
+use Rattle.ob_tree.specs.StructsView.{plain_structs}
 use Rattle.ob_tree.specs.Sizes.{size}
 use Rattle.ob_layout.proofs.frames.allowance.Given as goal
 

@@ -1,7 +1,7 @@
 use Rattle.std.proofs.Common.{rules, ◌≡◌, ◌<◌, false, length, get_or, arith}
 use Rattle.std.proofs.lemmas.Grind.{common_steps}
 use Rattle.std.specs.Str.{bytes_eq}
-use Rattle.ob_tree.specs.TypeView.{plain_structs}
+use Rattle.ob_tree.specs.StructsView.{plain_structs}
 use Rattle.ob_tree.specs.Sizes.{struct_layout}
 use Rattle.ob_layout.specs.Capped.{shown}
 use Rattle.ob_layout.proofs.Found.{turn}

@@ -1,5 +1,6 @@
 use Rattle.std.proofs.Common.{◌≡◌, option_map, length, drop, map}
-use Rattle.ob_tree.specs.TypeView.{plain_member, plain_structs}
+use Rattle.ob_tree.specs.TypeView.{plain_member}
+use Rattle.ob_tree.specs.StructsView.{plain_structs}
 use Rattle.ob_tree.specs.Sizes.{member_from, no_layout, struct_layout}
 use Rattle.ob_layout.specs.Capped.{capped_place, shown}
 use Rattle.ob_layout.proofs.members.find.Given as goal

@@ -1,4 +1,5 @@
-use Rattle.ob_tree.specs.TypeView.{plain_type, plain_structs}
+use Rattle.ob_tree.specs.TypeView.{plain_type}
+use Rattle.ob_tree.specs.StructsView.{plain_structs}
 use Rattle.ob_tree.specs.Sizes.{layout}
 use Rattle.ob_layout.specs.Capped.{shown}
 use Rattle.ob_layout.proofs.Layouts.{uncapped, fits_within}

@@ -1,14 +1,13 @@
-use Rattle.std.proofs.Common.{◌≡◌, rules, length, ◌∙◌}
+use Rattle.std.proofs.Common.{◌≡◌, rules, ◌∙◌}
 use Rattle.std.specs.Option.{is_some}
-use Rattle.ob_tree.specs.TypeView.{plain_type, plain_structs}
+use Rattle.ob_tree.specs.TypeView.{plain_type}
+use Rattle.ob_tree.specs.StructsView.{plain_structs}
 use Rattle.ob_tree.specs.Sizes.{layout}
 use Rattle.ob_layout.specs.Capped.{shown}
-use Rattle.ob_layout.proofs.Layouts.{same_some, deep_enough}
+use Rattle.ob_layout.proofs.Layouts.{same_some}
 use Rattle.ob_layout.proofs.sizes.has_size.Goals as goal
 
 pub returns : goal.returns
 returns c =
-    let h : c.len.result ≡ length c.args.s.now.rows.items = search rules in
     let k : c.is_some.result ≡ is_some c.type_layout.result = search rules in
-    k ∙ same_some shown c.type_layout.result (layout (plain_structs c.args.s.now) (plain_type c.args.t.now))
-    (c.type_layout.ensures ∙ deep_enough c.args.s.now c.len.result (plain_type c.args.t.now) h)
+    k ∙ same_some shown c.type_layout.result (layout (plain_structs c.args.s.now) (plain_type c.args.t.now)) c.type_layout.ensures
