@@ -41,7 +41,7 @@ address (lean.Value e) = None
 address (lean.Slide b scale minus number_first e) = slid minus scale (address b) (constant e)
 address (lean.Member b offset) = option_and_then (λ a. offset_by a (pos offset)) (address b)
 
--- The size of a static object of this type; it has none yet where its own initialiser has to tell its length.
+-- the size of a static object of this type; its own initialiser tells an array's length before
 abbrev pub object_size : PlainStructs → Option PlainType → ℕ
 object_size structs None = 0
 object_size structs (Some t) = size structs t

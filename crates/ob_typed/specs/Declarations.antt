@@ -18,7 +18,7 @@ use Rattle.ob_typed.specs.Specifiers.{declarator_type, object_type, opened}
 use Rattle.ob_typed.specs.Strings.{with_static}
 use Rattle.ob_typed.specs.Expressions.{check_spec, check_lengths}
 use Rattle.ob_typed.specs.Images.{image, no_image}
-use Rattle.ob_typed.specs.Initialisers.{check_init, completed}
+use Rattle.ob_typed.specs.Initialisers.{check_init, completed, foreseen}
 
 -- what the statements of a function add to, besides what expressions do: the types and the names of its
 -- automatic objects, which begin with the parameters
@@ -63,7 +63,8 @@ set_static n o k = record { structs = k.structs; tags = k.tags; statics = slice_
 abbrev pub reserved : VarName → Known → Known
 reserved name k = with_static k (static_object name type.Void no_image)
 
--- the initialiser of static object n, which is of type t up to its length
+-- The initialiser of static object n, which is of type t up to its length. There `sizeof` takes an array without a
+-- length for incomplete, but addresses reach to the end that it will have.
 abbrev pub static_init : (name : VarName) → (n at : ℕ) → PlainType → Walk Known TypedInit → Walk Known PlainType
 static_init name n at t (Err f) = Err f
 static_init name n at t (Ok r) =
@@ -79,7 +80,7 @@ check_static env line base (declarator.Initial stars name at ds i) k =
     let n = length k.statics in
     next (check_lengths env [] ds (reserved (named name line) k)) (λ ns k1.
     next (by (variable_rule k1.structs env true name (declarator_type base stars ns) at) k1) (λ t k2.
-    next (static_init (named name line) n at t (check_init (declaring env (variable name env.depth t (lean.Static n))) true (Some t) i (set_static n (static_object (named name line) t no_image) k2))) (λ u k3.
+    next (static_init (named name line) n at t (check_init (declaring env (variable name env.depth t (lean.Static n))) true (Some t) i (set_static n (static_object (named name line) (foreseen t i) no_image) k2))) (λ u k3.
     Ok (variable name env.depth u (lean.Static n), k3))))
 
 -- ---- automatic objects, and static ones in a block

@@ -4,7 +4,9 @@ use Rattle.std.specs.Str.{bytes_eq}
 use Rattle.ob_tree.specs.declared.faults.TypeKind.TheVariants as kind
 use Rattle.ob_tree.specs.Programs.{ParamTree, ParamsTree}
 use Rattle.ob_tree.specs.Programs.{ParamsTree as params}
-use Rattle.ob_tree.specs.Types.{PlainType}
+use Rattle.ob_tree.specs.Types.{PlainType, PlainStructs}
+use Rattle.ob_tree.specs.Types.{PlainType as type}
+use Rattle.ob_tree.specs.Sizes.{has_size, is_complete}
 use Rattle.ob_typed.specs.declared.names.VarName.{VarName}
 use Rattle.ob_typed.specs.TypedTree.{TypedLean as lean}
 use Rattle.ob_typed.specs.Faults.{Answer, Walk, fault, next, by}
@@ -41,15 +43,21 @@ abbrev pub is_declared_here : Env → Option (List ℕ) → Bool
 is_declared_here env None = false
 is_declared_here env (Some name) = is_at env.depth (find name env.declared)
 
+-- a pointer to a type of too many bytes, as that to the elements of an array can be
+abbrev pub points_too_far : PlainStructs → PlainType → Bool
+points_too_far structs (type.Pointer t) = has_size structs t && not (is_complete structs t)
+points_too_far structs _ = false
+
 -- a parameter is a number or a pointer
-abbrev pub parameter_rule : Env → ParamTree → PlainType → Answer Parameter
-parameter_rule env p t =
+abbrev pub parameter_rule : PlainStructs → Env → ParamTree → PlainType → Answer Parameter
+parameter_rule structs env p t =
     if is_declared_here env p.name then fault kind.Twice p.at
-    else (if is_scalar t then Ok (record { name = p.name; ty = t; line = p.line }) else fault kind.Incomplete p.at)
+    else (if not (is_scalar t) then fault kind.Incomplete p.at
+    else (if points_too_far structs t then fault kind.Constant p.at else Ok (record { name = p.name; ty = t; line = p.line })))
 
 abbrev pub check_parameter : Env → ParamTree → Known → Walk Known Parameter
 check_parameter env p k =
-    next (check_spec env p.spec k) (λ t k1. next (check_lengths env [] p.dims k1) (λ ns k2. by (parameter_rule env p (parameter_type t p.stars ns)) k2))
+    next (check_spec env p.spec k) (λ t k1. next (check_lengths env [] p.dims k1) (λ ns k2. by (parameter_rule k2.structs env p (parameter_type t p.stars ns)) k2))
 
 abbrev pub check_each : Env → (done : List Parameter) → List ParamTree → Known → Walk Known (List Parameter)
 check_each env done [] k = Ok (done, k)

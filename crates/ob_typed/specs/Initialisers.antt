@@ -147,6 +147,24 @@ abbrev pub with_length : PlainType → (count told : ℕ) → PlainType
 with_length t zero told = type.Array t told
 with_length t (suc n) told = type.Array t (suc n)
 
+-- the length that the text of an initialiser tells
+abbrev pub text_count : InitTrees → ℕ
+text_count sources.NoItems = 0
+text_count (sources.Item x xs) = 1 + text_count xs
+
+abbrev pub string_count : Option (List ℕ) → ℕ
+string_count None = 0
+string_count (Some bytes) = length bytes + 1
+
+abbrev pub text_length : InitTree → ℕ
+text_length (source.Value e) = string_count (string_node e)
+text_length (source.Braces first is comma) = text_count is
+
+-- the type that an object will have after its initialiser, which bounds the addresses in it
+abbrev pub foreseen : PlainType → InitTree → PlainType
+foreseen (type.Array t n) i = with_length t n (text_length i)
+foreseen t i = t
+
 -- the type of an object after its initialiser
 abbrev pub completed : PlainType → TypedInit → PlainType
 completed (type.Array t n) x = with_length t n (told_length x)

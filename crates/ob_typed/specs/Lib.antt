@@ -29,4 +29,8 @@ pub mod FaultExamples
 pub mod MoreFaultExamples
 pub mod SourceExamples
 pub mod TypedExamples
+pub mod RuleExamples
+pub mod SampledTrees
+pub mod MoreSampledTrees
+pub mod LastSampledTrees
 pub mod WellTyped

@@ -1,5 +1,5 @@
 -- Type specifiers and declarators (C99 6.7.2, 6.7.5, 6.7.6): the rule of each.
-use Rattle.std.specs.Prelude.{ℕ, zero, suc, ℤ, pos, Bool, true, false, nat_eq, ◌||◌, if◌then◌else◌, Option, Some, None, Ok, Err, List, [], ◌∷◌, ◌++◌, length, slice_get, slice_set, unsigned_abs}
+use Rattle.std.specs.Prelude.{ℕ, zero, suc, ℤ, pos, Bool, false, nat_eq, ◌||◌, if◌then◌else◌, Option, Some, None, Ok, Err, List, [], ◌∷◌, ◌++◌, length, slice_get, unsigned_abs}
 use Rattle.std.specs.Prelude.{int_lt}
 use Rattle.std.specs.Str.{bytes_eq}
 use Rattle.ob_words.specs.declared.types.IntType.{IntType}
@@ -9,7 +9,7 @@ use Rattle.ob_tree.specs.declared.faults.TypeKind.TheVariants as kind
 use Rattle.ob_tree.specs.declared.tokens.Keyword.{Keyword}
 use Rattle.ob_tree.specs.declared.tokens.Keyword.TheVariants as word
 use Rattle.ob_tree.specs.Trees.{Mark}
-use Rattle.ob_tree.specs.Types.{PlainType, PlainMember, PlainStruct, PlainStructs}
+use Rattle.ob_tree.specs.Types.{PlainType, PlainMember, PlainStructs, is_complete_row, unknown_struct, with_members}
 use Rattle.ob_tree.specs.Types.{PlainType as type}
 use Rattle.ob_tree.specs.Sizes.{is_complete}
 use Rattle.ob_typed.specs.Completeness.{is_object_type, is_sized}
@@ -40,9 +40,6 @@ int_words ws = plain_words ws
 
 -- ---- structures (6.7.2.1, 6.7.2.3)
 
-abbrev pub unknown_struct : PlainStruct
-unknown_struct = record { complete = false; members = [] }
-
 -- a structure without its members yet, under a tag in the block of a depth, or under none
 abbrev pub new_struct : Known → Known
 new_struct k = record { structs = k.structs ++ unknown_struct ∷ []; tags = k.tags; statics = k.statics; calls = k.calls }
@@ -68,13 +65,6 @@ mentioned name depth k = tag_number (find_tag name k.tags) name depth k
 abbrev pub opened : Option (List ℕ) → (depth : ℕ) → Known → PlainType × Known
 opened None depth k = (type.Struct (length k.structs), new_struct k)
 opened (Some name) depth k = tag_number (tag_at name depth k.tags) name depth k
-
-abbrev pub is_complete_row : Option PlainStruct → Bool
-is_complete_row None = false
-is_complete_row (Some r) = r.complete
-
-abbrev pub with_members : PlainStructs → (number : ℕ) → List PlainMember → PlainStructs
-with_members structs n ms = slice_set structs n (record { complete = true; members = ms })
 
 -- the place that faults of a structure stand at: its tag, which follows the word `struct`, else that word
 abbrev pub struct_place : Option (List ℕ) → (first : ℕ) → ℕ

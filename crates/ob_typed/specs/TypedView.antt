@@ -2,8 +2,9 @@
 use Rattle.std.specs.Prelude.{ℕ, Option, Some, None, map, Vec}
 use Rattle.std.specs.declared.alloc.Global.{Global}
 use Rattle.ob_tree.specs.declared.types.CType.{CType}
-use Rattle.ob_tree.specs.declared.types.Structs.{Structs}
-use Rattle.ob_tree.specs.TypeView.{plain_type, plain_types, plain_structs}
+use Rattle.ob_tree.specs.declared.structs.Structs.{Structs}
+use Rattle.ob_tree.specs.TypeView.{plain_type, plain_types}
+use Rattle.ob_tree.specs.StructsView.{plain_structs}
 use Rattle.ob_typed.specs.declared.expressions.TExpr.{TExpr}
 use Rattle.ob_typed.specs.declared.expressions.TPlace.{TPlace}
 use Rattle.ob_typed.specs.declared.expressions.TLean as lean

@@ -7,6 +7,10 @@ ghost use Rattle.ob_typed.specs.FaultExamples.{undeclared_name, parts_first, two
 ghost use Rattle.ob_typed.specs.MoreFaultExamples.{list_for_number, called_object, function_as_value, member_of_int, no_elements, length_divides, great_array, variable_value, break_alone, value_of_void, no_main, main_of_char, called_without_body, nested_lists, member_without_place};
 ghost use Rattle.ob_typed.specs.SourceExamples.{conversions, elements, lines, recursion, strings};
 ghost use Rattle.ob_typed.specs.TypedExamples.{typed_conversions, typed_elements, typed_lines, typed_recursion, typed_strings};
+ghost use Rattle.ob_typed.specs.RuleExamples.{own_addresses, own_end, past_own_end, own_size, far_parameter, far_parameter_unnamed, freed_pointer, exit_call, typed_own_addresses, typed_own_end, typed_freed_pointer, typed_exit_call};
+ghost use Rattle.ob_typed.specs.SampledTrees.{program_one, typed_one, program_two, typed_two, program_three, typed_three, program_four, typed_four, program_five, typed_five, program_six, typed_six, program_seven, typed_seven, program_eight, typed_eight};
+ghost use Rattle.ob_typed.specs.MoreSampledTrees.{program_nine, typed_nine, program_ten, typed_ten, program_eleven, typed_eleven, program_twelve, typed_twelve, program_thirteen, typed_thirteen, program_fourteen, typed_fourteen, program_fifteen, typed_fifteen, program_sixteen, typed_sixteen};
+ghost use Rattle.ob_typed.specs.LastSampledTrees.{program_seventeen, typed_seventeen, program_eighteen, typed_eighteen, program_nineteen, typed_nineteen, program_twenty, typed_twenty, program_twenty_one, typed_twenty_one, program_twenty_two, typed_twenty_two, program_twenty_three, typed_twenty_three};
 ghost use Rattle.ob_typed.specs.Typing.{FirstTypeFault, Types};
 
 /// The first faults of thirty-two programs, of each kind at least one, with the place of a token: what each
@@ -53,4 +57,61 @@ pub fn law_typed_trees()
     ensures strings { Types strings typed_strings }
     ensures lines { Types lines typed_lines }
     ensures conversions { Types conversions typed_conversions }
+{}
+
+/// An array whose length its initialiser tells has its final size as the bound of the addresses in it, but
+/// no size under `sizeof` there.
+pub fn law_own_addresses()
+    ensures inside { Types own_addresses typed_own_addresses }
+    ensures end { Types own_end typed_own_end }
+    ensures past { FirstTypeFault past_own_end (at kinds.Constant 18) }
+    ensures size { FirstTypeFault own_size (at kinds.Incomplete 6) }
+{}
+
+/// A parameter that points to a type of more than 4,194,304 bytes is refused at its name, or at its first
+/// token where it has none.
+pub fn law_far_parameters()
+    ensures named { FirstTypeFault far_parameter (at kinds.Constant 4) }
+    ensures unnamed { FirstTypeFault far_parameter_unnamed (at kinds.Constant 3) }
+{}
+
+/// The typed trees of a call of `free`, whose argument changes its type alone, and of one of `exit`.
+pub fn law_builtin_calls()
+    ensures free { Types freed_pointer typed_freed_pointer }
+    ensures exit { Types exit_call typed_exit_call }
+{}
+
+/// The typed trees of programs made at random, as another implementation of the rules gave them.
+pub fn law_sampled_trees()
+    ensures one { Types program_one typed_one }
+    ensures two { Types program_two typed_two }
+    ensures three { Types program_three typed_three }
+    ensures four { Types program_four typed_four }
+    ensures five { Types program_five typed_five }
+    ensures six { Types program_six typed_six }
+    ensures seven { Types program_seven typed_seven }
+    ensures eight { Types program_eight typed_eight }
+{}
+
+/// The typed trees of programs made at random, as another implementation of the rules gave them.
+pub fn law_more_sampled_trees()
+    ensures nine { Types program_nine typed_nine }
+    ensures ten { Types program_ten typed_ten }
+    ensures eleven { Types program_eleven typed_eleven }
+    ensures twelve { Types program_twelve typed_twelve }
+    ensures thirteen { Types program_thirteen typed_thirteen }
+    ensures fourteen { Types program_fourteen typed_fourteen }
+    ensures fifteen { Types program_fifteen typed_fifteen }
+    ensures sixteen { Types program_sixteen typed_sixteen }
+{}
+
+/// The typed trees of programs made at random, as another implementation of the rules gave them.
+pub fn law_last_sampled_trees()
+    ensures seventeen { Types program_seventeen typed_seventeen }
+    ensures eighteen { Types program_eighteen typed_eighteen }
+    ensures nineteen { Types program_nineteen typed_nineteen }
+    ensures twenty { Types program_twenty typed_twenty }
+    ensures twenty_one { Types program_twenty_one typed_twenty_one }
+    ensures twenty_two { Types program_twenty_two typed_twenty_two }
+    ensures twenty_three { Types program_twenty_three typed_twenty_three }
 {}
