@@ -15,7 +15,7 @@ use Rattle.ob_typed.specs.TypedTree.{TypedExpr}
 use Rattle.ob_typed.specs.TypedTree.{TypedExpr as expr, TypedNode as node}
 use Rattle.ob_typed.specs.ConstantValues.{and_value, arith_value, compare_value, cond_value, constant, evaluated, is_constant_form, is_true, or_value, quotient, right_value, truth, truth_value}
 use Rattle.ob_typed.specs.Conversions.{value_type}
-use Rattle.ob_typed.specs.WellTyped.{IsNumberOf, IsWellTyped}
+use Rattle.ob_typed.specs.WellTyped.{Agrees, Around, IsNumberOf, IsWellTyped}
 
 -- what the laws on arithmetic say
 abbrev pub Converts : Type 0
@@ -70,33 +70,49 @@ cond_is P (Some c) x y h k = either_is (is_true c) x y P h k
 as_type : (t : PlainType) (k : IntType) (o : Option ℤ) → t ≡ type.Int k → IfSome o (IsNumber k) → IfSome o (IsNumberOf t)
 as_type t k o is h = subst (λ (u : PlainType). IfSome o (IsNumberOf u)) (sym is) h
 
-of_type : (t u : PlainType) (o : Option ℤ) → t ≡ u → IfSome o (IsNumberOf t) → IfSome o (IsNumberOf u)
-of_type t u o is h = subst (λ (v : PlainType). IfSome o (IsNumberOf v)) is h
+-- a value of a type that agrees with another, which has one where that is a number's
+of_agreeing : (t u : PlainType) (o : Option ℤ) → Agrees t u → IfSome o (IsNumberOf u) → IfSome o (IsNumberOf t)
+of_agreeing type.Void u o is h = subst (λ (v : PlainType). IfSome o (IsNumberOf v)) (sym is) h
+of_agreeing (type.Int k) u o is h = subst (λ (v : PlainType). IfSome o (IsNumberOf v)) (sym is) h
+of_agreeing (type.Array t n) u o is h = subst (λ (v : PlainType). IfSome o (IsNumberOf v)) (sym is) h
+of_agreeing (type.Struct n) u o is h = subst (λ (v : PlainType). IfSome o (IsNumberOf v)) (sym is) h
+of_agreeing (type.Pointer t) (type.Pointer u) o is h = h
+of_agreeing (type.Pointer t) type.Void o is h = subst (λ (v : PlainType). IfSome o (IsNumberOf v)) (sym is) h
+of_agreeing (type.Pointer t) (type.Int k) o is h = subst (λ (v : PlainType). IfSome o (IsNumberOf v)) (sym is) h
+of_agreeing (type.Pointer t) (type.Array u n) o is h = subst (λ (v : PlainType). IfSome o (IsNumberOf v)) (sym is) h
+of_agreeing (type.Pointer t) (type.Struct n) o is h = subst (λ (v : PlainType). IfSome o (IsNumberOf v)) (sym is) h
 
-value_number : Converts → Computes → (e : TypedExpr) → IsWellTyped e → IfSome (evaluated e) (IsNumberOf (value_type e))
-value_number c o (expr.Typed l t (node.Num z)) w = w
-value_number c o (expr.Typed l t (node.Convert k e)) w = as_type t k (option_map (convert k) (evaluated e)) w.0 (converted c k (evaluated e))
-value_number c o (expr.Typed l t (node.Arith op k a b)) w = as_type t k (arith_value op k (evaluated a) (evaluated b)) w.0 (arith_is o op k (evaluated a) (evaluated b))
-value_number c o (expr.Typed l t (node.Compare r a b)) w = as_type t Int (compare_value r (evaluated a) (evaluated b)) w.0 (compare_is r (evaluated a) (evaluated b))
-value_number c o (expr.Typed l t (node.And a b)) w = as_type t Int (and_value (evaluated a) (evaluated b)) w.0 (and_is (evaluated a) (evaluated b))
-value_number c o (expr.Typed l t (node.Or a b)) w = as_type t Int (or_value (evaluated a) (evaluated b)) w.0 (or_is (evaluated a) (evaluated b))
-value_number c o (expr.Typed l t (node.Cond z a b)) w =
+of_type : (t u : PlainType) (o : Option ℤ) → t ≡ u → IfSome o (IsNumberOf u) → IfSome o (IsNumberOf t)
+of_type t u o is h = subst (λ (v : PlainType). IfSome o (IsNumberOf v)) (sym is) h
+
+value_number : Converts → Computes → (a : Around) (e : TypedExpr) → IsWellTyped a e → IfSome (evaluated e) (IsNumberOf (value_type e))
+value_number c o m (expr.Typed l t (node.Num z)) w = w
+value_number c o m (expr.Typed l t (node.Convert k e)) w = as_type t k (option_map (convert k) (evaluated e)) w.0 (converted c k (evaluated e))
+value_number c o m (expr.Typed l t (node.Arith op k a b)) w = as_type t k (arith_value op k (evaluated a) (evaluated b)) w.0 (arith_is o op k (evaluated a) (evaluated b))
+value_number c o m (expr.Typed l t (node.Compare r a b)) w = as_type t Int (compare_value r (evaluated a) (evaluated b)) w.0 (compare_is r (evaluated a) (evaluated b))
+value_number c o m (expr.Typed l t (node.And a b)) w = as_type t Int (and_value (evaluated a) (evaluated b)) w.0 (and_is (evaluated a) (evaluated b))
+value_number c o m (expr.Typed l t (node.Or a b)) w = as_type t Int (or_value (evaluated a) (evaluated b)) w.0 (or_is (evaluated a) (evaluated b))
+value_number c o m (expr.Typed l t (node.Cond z a b)) w =
+    let agrees = w.2 in
+    let same = w.3 in
+    let yes = value_number c o m a w.5 in
+    let other = value_number c o m b w.6 in
     cond_is (IsNumberOf t) (evaluated z) (evaluated a) (evaluated b)
-    (of_type (value_type a) t (evaluated a) w.2 (value_number c o a w.5))
-    (of_type (value_type b) t (evaluated b) w.3 (value_number c o b w.6))
-value_number c o (expr.Typed l t node.Null) w = tt
-value_number c o (expr.Typed l t (node.Read p)) w = tt
-value_number c o (expr.Typed l t (node.Lean p)) w = tt
-value_number c o (expr.Typed l t (node.ToVoid e)) w = tt
-value_number c o (expr.Typed l t (node.PtrCompare r a b)) w = tt
-value_number c o (expr.Typed l t (node.PtrDiff n a b)) w = tt
-value_number c o (expr.Typed l t (node.Comma a b)) w = tt
-value_number c o (expr.Typed l t (node.Assign p e)) w = tt
-value_number c o (expr.Typed l t (node.Update op k post p e)) w = tt
-value_number c o (expr.Typed l t (node.PtrUpdate n minus post p e)) w = tt
-value_number c o (expr.Typed l t (node.CopyStruct p q)) w = tt
-value_number c o (expr.Typed l t (node.Call n es)) w = tt
-value_number c o (expr.Typed l t (node.CallBuiltin b es)) w = tt
+    (of_agreeing t (value_type a) (evaluated a) agrees yes)
+    (of_agreeing t (value_type a) (evaluated b) agrees (of_type (value_type a) (value_type b) (evaluated b) same other))
+value_number c o m (expr.Typed l t node.Null) w = tt
+value_number c o m (expr.Typed l t (node.Read p)) w = tt
+value_number c o m (expr.Typed l t (node.Lean p)) w = tt
+value_number c o m (expr.Typed l t (node.ToVoid e)) w = tt
+value_number c o m (expr.Typed l t (node.PtrCompare r a b)) w = tt
+value_number c o m (expr.Typed l t (node.PtrDiff n a b)) w = tt
+value_number c o m (expr.Typed l t (node.Comma a b)) w = tt
+value_number c o m (expr.Typed l t (node.Assign p e)) w = tt
+value_number c o m (expr.Typed l t (node.Update op k post p e)) w = tt
+value_number c o m (expr.Typed l t (node.PtrUpdate n minus post p e)) w = tt
+value_number c o m (expr.Typed l t (node.CopyStruct p q)) w = tt
+value_number c o m (expr.Typed l t (node.Call n es)) w = tt
+value_number c o m (expr.Typed l t (node.CallBuiltin b es)) w = tt
 
-pub constant_number : Converts → Computes → (e : TypedExpr) → IsWellTyped e → IfSome (constant e) (IsNumberOf (value_type e))
-constant_number c o e w = either_is (is_constant_form e) (evaluated e) None (IsNumberOf (value_type e)) (value_number c o e w) tt
+pub constant_number : Converts → Computes → (a : Around) (e : TypedExpr) → IsWellTyped a e → IfSome (constant e) (IsNumberOf (value_type e))
+constant_number c o a e w = either_is (is_constant_form e) (evaluated e) None (IsNumberOf (value_type e)) (value_number c o a e w) tt
