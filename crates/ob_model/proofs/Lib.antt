@@ -6,3 +6,4 @@ pub mod SlotWords
 pub mod BoundedLists
 pub mod Recency
 pub mod ReadBack
+pub mod FreedObjects

@@ -1,13 +1,22 @@
 -- Laws above the definitions, in the subject's own words.
-use Rattle.std.specs.Prelude.{◌≡◌, ◌↔◌, ℕ, Bool, true, false, ◌+◌, ◌%◌, ◌≤◌, ◌<◌, ◌==◌, ℤ, ◌+ℤ◌, ◌*ℤ◌, ◌≤ℤ◌, ◌<ℤ◌, unsigned_abs, List, [], ◌∷◌, ◌++◌, length, Some, None, MatchOption, ◌≢◌, pos, negsuc}
+use Rattle.std.specs.Prelude.{◌≡◌, ◌↔◌, ℕ, Bool, true, false, not, ◌+◌, ◌*◌, ◌%◌, ◌≤◌, ◌<◌, ◌==◌, ℤ, ◌+ℤ◌, ◌*ℤ◌, ◌≤ℤ◌, ◌<ℤ◌, unsigned_abs, List, [], ◌∷◌, ◌++◌, length, Some, None, MatchOption, ◌≢◌, pos, negsuc}
 use Rattle.std.specs.List.{All}
+use Rattle.std.specs.Option.{option_map}
 use Rattle.ob_words.specs.Fields.{from_bytes, low_bytes}
+use Rattle.ob_words.specs.Words.{block}
 use Rattle.ob_model.specs.declared.values.Cell.{Cell}
-use Rattle.ob_model.specs.Accesses.{IsInside, is_aligned, is_stray, granule, place_in_granule, own_granules, is_own, inside, vanishing, reach}
+use Rattle.ob_model.specs.Accesses.{IsInside, is_far, is_inside, is_aligned, is_stray, granule, place_in_granule, own_granules, is_own, inside, vanishing, reach}
 use Rattle.ob_model.specs.declared.endings.Ending.{Ending}
 use Rattle.ob_model.specs.declared.endings.Ending.TheVariants.{Ended}
 use Rattle.ob_model.specs.declared.settings.Mode.TheVariants.{Oblivious}
+use Rattle.ob_model.specs.declared.objects.Sort.{Sort}
+use Rattle.ob_model.specs.declared.settings.Profile.{Profile}
 use Rattle.ob_model.specs.declared.settings.Profile.TheVariants.{One}
+use Rattle.ob_model.specs.declared.values.Value.{Value}
+use Rattle.ob_model.specs.declared.values.Value.TheVariants as value
+use Rattle.ob_model.specs.Entries.{Known, entries_of, with_entry, with_known, surviving_entries, surviving_known, with_freed, entry_at, known_at, of_object, known_of}
+use Rattle.ob_model.specs.Objects.{frees, is_heap, is_freed, is_dead_state, keeps_freed, state_once_freed}
+use Rattle.ob_model.specs.Pointers.{in_bounds, out_of_bounds, moved_to, is_before}
 use Rattle.ob_model.specs.declared.settings.RunSettings.{RunSettings}
 use Rattle.ob_model.specs.Endings.{Agrees, Outcome, plain, status_of}
 use Rattle.ob_model.specs.Manufactured.{place_after}
@@ -30,6 +39,10 @@ abbrev pub OwnGranulesAreCounted : Type 0
 OwnGranulesAreCounted =
     (size : ℕ) (offset : ℤ) →
     (is_own size offset ≡ true) ↔ ((pos 0 ≤ℤ granule offset) × (granule offset <ℤ pos (own_granules size)))
+
+-- an object's last granule lies in its block as a whole
+abbrev pub LastGranuleIsInBlock : Type 0
+LastGranuleIsInBlock = (size : ℕ) → 8 * own_granules size ≤ block size
 
 -- an access is astray unless its object isn't freed, its size divides its offset and its bytes lie in the object
 abbrev pub StraysAreTheOthers : Type 0
@@ -73,6 +86,55 @@ OneBlockLeaves =
     (object place : ℕ) (all : List Allocated) →
     All (λ a. (a.object == object) ≡ (a.place == place)) all →
     blocks_of (surviving_blocks (λ other. other == object) all) ≡ without_place place (blocks_of all)
+
+-- ---- freed objects
+
+-- `free` frees the object of a pointer to the first byte of a live heap object, and of no other
+abbrev pub FreesAreOwn : Type 0
+FreesAreOwn =
+    (freed : Bool) (sort : Sort) (offset : ℤ) →
+    (frees freed sort offset ≡ true) ↔ ((freed ≡ false) × (is_heap sort ≡ true) × (offset ≡ pos 0))
+
+-- an object that dies once it is freed is one that doesn't stay known
+abbrev pub FreedDieOrStay : Type 0
+FreedDieOrStay =
+    (profile : Profile) →
+    (is_freed (state_once_freed profile) ≡ keeps_freed profile) × (is_dead_state (state_once_freed profile) ≡ not (keeps_freed profile))
+
+-- ---- live and freed objects of the machine
+
+-- their entries change as they do: with one more, without those that die, and not at all where one is freed
+abbrev pub KnownAreInserted : Type 0
+KnownAreInserted = (k : Known) (all : List Known) → entries_of (with_known k all) ≡ with_entry k.entry (entries_of all)
+
+abbrev pub KnownSurvive : Type 0
+KnownSurvive = (dies : ℕ → Bool) (all : List Known) → entries_of (surviving_known dies all) ≡ surviving_entries dies (entries_of all)
+
+abbrev pub FreedKeepTheirEntries : Type 0
+FreedKeepTheirEntries = (object : ℕ) (all : List Known) → entries_of (with_freed object all) ≡ entries_of all
+
+-- the object that an address names, and the one of a number, are those of the entries
+abbrev pub KnownAreFound : Type 0
+KnownAreFound =
+    (address object : ℕ) (all : List Known) →
+    (option_map (λ k. k.entry) (known_at address all) ≡ entry_at address (entries_of all))
+    × (option_map (λ k. k.entry) (known_of object all) ≡ of_object object (entries_of all))
+
+-- ---- pointers
+
+-- a moved pointer is in bounds where its offset is from 0 to the size and not too far out
+abbrev pub MovesStayInBounds : Type 0
+MovesStayInBounds =
+    (size object : ℕ) (offset : ℤ) →
+    is_far offset ≡ false →
+    (is_inside size offset 0 ≡ true → moved_to size object offset ≡ in_bounds object offset)
+    × (is_inside size offset 0 ≡ false → moved_to size object offset ≡ out_of_bounds object offset)
+
+-- no pointer is before itself, and null is before each pointer to an object
+abbrev pub NullIsBeforeObjects : Type 0
+NullIsBeforeObjects =
+    (p : Value) (object : ℕ) (offset : ℤ) →
+    (is_before p p ≡ false) × (0 < object → is_before value.Null (value.Ptr object offset) ≡ true)
 
 -- ---- descriptors
 

@@ -1,9 +1,11 @@
-ghost use Rattle.ob_model.specs.Laws.{GranulesHaveEightPlaces, OwnGranulesAreCounted, StraysAreTheOthers, OthersStayInside, StraysVanish, IllAlignedVanish, FreedVanish, HeapIsFirstFit, BlocksAreInserted, OneBlockLeaves, WordsNamePairs, OtherWordsNameNothing, LoadMovesToFront, OtherLoadsChangeNothing, StoreMovesToFront, FullListDropsItsLast, StoredIsListed, OthersStayListed, WrittenIsRead, KindsAreKept, CellsHoldWords, OwnStatusIsBelow, OtherStatusIsAbove, StatusOfSmallNumbers, OutcomesAgree, PlainOutcomesAreEqual, UsualSettingsAreFit, PlacesStayInTheCycle};
+ghost use Rattle.ob_model.specs.Laws.{GranulesHaveEightPlaces, OwnGranulesAreCounted, LastGranuleIsInBlock, FreesAreOwn, FreedDieOrStay, KnownAreInserted, KnownSurvive, FreedKeepTheirEntries, KnownAreFound, MovesStayInBounds, NullIsBeforeObjects, StraysAreTheOthers, OthersStayInside, StraysVanish, IllAlignedVanish, FreedVanish, HeapIsFirstFit, BlocksAreInserted, OneBlockLeaves, WordsNamePairs, OtherWordsNameNothing, LoadMovesToFront, OtherLoadsChangeNothing, StoreMovesToFront, FullListDropsItsLast, StoredIsListed, OthersStayListed, WrittenIsRead, KindsAreKept, CellsHoldWords, OwnStatusIsBelow, OtherStatusIsAbove, StatusOfSmallNumbers, OutcomesAgree, PlainOutcomesAreEqual, UsualSettingsAreFit, PlacesStayInTheCycle};
 
-/// A granule has eight places, and an object's own granules are those that its bytes touch.
+/// A granule has eight places, and an object's own granules are those that its bytes touch. The last one
+/// lies in the object's block as a whole.
 pub fn law_granules()
     ensures places { GranulesHaveEightPlaces }
     ensures own { OwnGranulesAreCounted }
+    ensures last { LastGranuleIsInBlock }
 {}
 
 /// An access is astray unless its object isn't freed and it is aligned and inside. A stray access vanishes
@@ -26,6 +28,28 @@ pub fn law_first_fit()
 pub fn law_heap_blocks()
     ensures inserted { BlocksAreInserted }
     ensures leaves { OneBlockLeaves }
+{}
+
+/// `free` frees an object by a pointer to its first byte, where it is live and of the heap. A freed object
+/// dies or stays known, as the profile says.
+pub fn law_freeing()
+    ensures own { FreesAreOwn }
+    ensures states { FreedDieOrStay }
+{}
+
+/// The entries of live and freed objects change as these do, and name the same ones.
+pub fn law_known()
+    ensures inserted { KnownAreInserted }
+    ensures survive { KnownSurvive }
+    ensures freed { FreedKeepTheirEntries }
+    ensures found { KnownAreFound }
+{}
+
+/// A moved pointer is in bounds from its object's first byte to one past its last. No pointer is before
+/// itself, and null is before the pointers to objects.
+pub fn law_pointers()
+    ensures moves { MovesStayInBounds }
+    ensures order { NullIsBeforeObjects }
 {}
 
 /// A slot's word names what the slot holds, and no other word names a pair.

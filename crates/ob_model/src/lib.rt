@@ -8,8 +8,9 @@
 pub use accesses::{granule_of, inside, size_of_kind};
 pub use endings::Ending;
 pub use laws::{
-    law_agreement, law_bounded_list, law_cells, law_descriptors, law_first_fit, law_granules,
-    law_heap_blocks, law_recency, law_settings, law_status, law_strays,
+    law_agreement, law_bounded_list, law_cells, law_descriptors, law_first_fit, law_freeing,
+    law_granules, law_heap_blocks, law_known, law_pointers, law_recency, law_settings, law_status,
+    law_strays,
 };
 pub use objects::{Entry, Sort};
 pub use settings::{Mode, Profile, RunSettings};
