@@ -30,4 +30,5 @@ pub mod TypedPointers
 pub mod TypedExpressions
 pub mod TypedStatements
 pub mod TypedCalls
+pub mod TypedPrograms
 pub mod Agreement

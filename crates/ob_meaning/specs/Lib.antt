@@ -19,6 +19,7 @@ pub mod RunEnds
 pub mod Lives
 pub mod TypeLaws
 pub mod ValueTypes
+pub mod TypedPrograms
 pub mod ExampleTrees
 pub mod Examples
 pub mod ExampleRuns
