@@ -1,21 +1,20 @@
 -- The types of a program's expressions are those that its values have.
-use Rattle.std.proofs.Common.{◌≡◌, ℕ, zero, suc, ◌+◌, ◌<◌, Bool, true, false, ℤ, List, [], ◌∷◌, Option, Some, None, slice_get, slice_index_or, take, refl, sym, subst, ◌∙◌, ap}
+use Rattle.std.proofs.Common.{◌≡◌, ℕ, zero, suc, ◌+◌, List, [], ◌∷◌, Option, Some, None, slice_get, slice_index_or, take, refl, sym, subst, ◌∙◌, ap}
 use Rattle.ob_words.specs.declared.types.IntType.{IntType}
-use Rattle.ob_words.specs.declared.types.IntType.TheVariants as type
 use Rattle.ob_tree.specs.Types.{PlainType, PlainStructs}
 use Rattle.ob_tree.specs.Types.PlainType.{Void, Int, Pointer, Array, Struct}
 use Rattle.ob_typed.specs.declared.names.Builtin.{Builtin}
 use Rattle.ob_typed.specs.declared.names.Builtin.TheVariants as builtin
 use Rattle.ob_typed.specs.Conversions.{value_type}
 use Rattle.ob_typed.specs.PostfixRules.{builtin_params, builtin_result}
-use Rattle.ob_typed.specs.TypedTree.{TypedExpr, TypedExprs, TypedFunction, TypedInit, TypedInits, TypedLean, TypedNode, TypedPlace, TypedStmt, TypedStmts}
+use Rattle.ob_typed.specs.TypedTree.{TypedExpr, TypedExprs, TypedFunction, TypedInit, TypedInits, TypedLean, TypedNode, TypedStmt, TypedStmts}
 use Rattle.ob_typed.specs.TypedTree.TypedExpr.{Typed}
 use Rattle.ob_typed.specs.TypedTree.{TypedExprs as exprs, TypedLean as at, TypedNode as node, TypedInit as init, TypedInits as inits, TypedStmt as stmt, TypedStmts as stmts}
 use Rattle.ob_typed.specs.TypedTree.TypedPlace.{Place}
 use Rattle.ob_typed.specs.WellTyped as rules
 use Rattle.ob_typed.specs.WellTyped.{Around, IsWellTyped}
 use Rattle.ob_meaning.specs.Scalars.{part_of}
-use Rattle.ob_meaning.specs.Setup.{Setup, expression_type, function_at, no_function, number_type}
+use Rattle.ob_meaning.specs.Setup.{Setup, function_at, no_function, number_type}
 use Rattle.ob_meaning.specs.TypedPrograms.{AreScalars, FitItems, FitStmts, FitsInit, FitsReturn, FitsStmt, HasFittingParts, TypedProgramsGiveValues}
 use Rattle.ob_meaning.specs.ValueTypes.{AreArguments, AreTyped, AreTypedItems, AreTypedStmts, Class, HasClass, IsScalar, IsTyped, IsTypedInit, IsTypedLean, IsTypedNode, IsTypedOption, IsTypedProgram, IsTypedReturn, IsTypedStmt, builtin_class, class_of, class_of_expression, none, pointer}
 use Rattle.ob_meaning.specs.ValueTypes as class
