@@ -7,18 +7,18 @@ use Rattle.ob_tree.specs.declared.tokens.Sign.TheVariants as sign
 use Rattle.ob_tree.specs.declared.expressions.Expr.{Expr}
 use Rattle.ob_tree.specs.declared.expressions.ExprNode as from
 use Rattle.ob_tree.specs.declared.expressions.ExprNode.{ExprNode}
-use Rattle.ob_tree.specs.Trees.{Mark, ExprTree, ExprTrees}
+use Rattle.ob_tree.specs.Trees.{Mark, Infix, ExprTree, ExprTrees}
 use Rattle.ob_tree.specs.Paths.{height, height_arguments}
 use Rattle.ob_tree.specs.Levels.{mark_of}
 use Rattle.ob_tree.specs.ExpressionView.{marked, node_tree, expr_tree}
-use Rattle.ob_tree.proofs.Frames.{Frame, InCall, State, After, reduce, at_sign}
-use Rattle.ob_tree.proofs.Machine.{after_sign, finish, finish_spec, whole_of}
+use Rattle.ob_tree.proofs.Frames.{Frame, InParen, InIndex, InCall, InThen, InLength, State, After, reduce, at_sign}
+use Rattle.ob_tree.proofs.Machine.{after_sign, call_to, string_to, comma_to, join_to, close_paren, close_bracket, colon_to, finish, finish_spec, whole_of}
 use Rattle.ob_exprs.specs.declared.reader.Reader.{Reader}
 use Rattle.ob_exprs.specs.declared.reader.Answer.{Answer}
 use Rattle.ob_exprs.specs.declared.reader.Answer.TheVariants as answer
 use Rattle.ob_exprs.specs.Loads.{depth_of, load}
 use Rattle.ob_exprs.specs.Reading.{Leads, Answers}
-use Rattle.ob_exprs.specs.Behind.{is_postfix, closing_level, behind, answered}
+use Rattle.ob_exprs.specs.Behind.{is_postfix, closing_level, behind, is_name, is_string, in_call, in_paren, in_bracket, in_then, answered}
 use Rattle.ob_exprs.proofs.Heights.{depth-load}
 
 pub after_reduced : (least p : ℕ) (s : Sign) (e : ExprTree) (fs : List Frame) → is_postfix s ≡ false
@@ -83,3 +83,30 @@ closed_answers least p n s e e2 fs gs (Err x) o c d again l w = tt
 closed_answers least p n s e e2 fs gs (Ok a) o c d again l w =
     let q : behind least p s (e2, gs) ≡ after_sign least p s e fs = ap (behind least p s) d ∙ ap (λ m. behind least p s (reduce m e fs)) c ∙ sym (after_reduced least p s e fs o) in
     after_kept e e2 fs gs a (after_sign least p s e fs) again l (subst (λ x. Answers (After e2 gs) a x) q w)
+
+-- what no part of the newest node ends, and what can't go on with an operand
+pub no_call : (e : ExprTree) (fs : List Frame) → is_name e ≡ false → call_to e fs ≡ None
+no_call (ExprTree.Name m name) fs h = absurd cc
+no_call e fs h = refl
+
+pub no_string : (s : List ℕ) (e : ExprTree) (fs : List Frame) → is_string e ≡ false → string_to s e fs ≡ None
+no_string s (ExprTree.Str m ss) fs h = absurd cc
+no_string s e fs h = refl
+
+pub comma_joins : (least p : ℕ) (e : ExprTree) (fs : List Frame) → in_call fs ≡ false → comma_to least p e fs ≡ join_to least Infix.Comma p (e, fs)
+comma_joins least p e (InCall m name es ∷ fs) h = absurd cc
+comma_joins least p e fs h = refl
+
+pub no_paren : (e : ExprTree) (fs : List Frame) → in_paren fs ≡ false → close_paren e fs ≡ None
+no_paren e (InParen m ∷ fs) h = absurd cc
+no_paren e (InCall m name es ∷ fs) h = absurd cc
+no_paren e fs h = refl
+
+pub no_bracket : (e : ExprTree) (fs : List Frame) → in_bracket fs ≡ false → close_bracket e fs ≡ None
+no_bracket e (InIndex m b ∷ fs) h = absurd cc
+no_bracket e (InLength n ds ∷ fs) h = absurd cc
+no_bracket e fs h = refl
+
+pub no_colon : (e : ExprTree) (fs : List Frame) → in_then fs ≡ false → colon_to e fs ≡ None
+no_colon e (InThen m c ∷ fs) h = absurd cc
+no_colon e fs h = refl

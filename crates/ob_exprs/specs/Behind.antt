@@ -1,11 +1,11 @@
 -- What a sign behind a whole operand leads to, where it is none of a postfix expression: first the frames that it
 -- closes are closed.
-use Rattle.std.specs.Prelude.{ℕ, List, Bool, false, true, Option, Some, None, cond, nat_lt}
+use Rattle.std.specs.Prelude.{ℕ, List, [], ◌∷◌, Bool, false, true, Option, Some, None, cond, nat_lt}
 use Rattle.ob_tree.specs.declared.tokens.Sign.{Sign}
 use Rattle.ob_tree.specs.declared.tokens.Sign.TheVariants as sign
 use Rattle.ob_tree.specs.Trees.{Infix, ExprTree}
 use Rattle.ob_tree.specs.Levels.{binary_level, is_assign}
-use Rattle.ob_tree.proofs.Frames.{Frame, State}
+use Rattle.ob_tree.proofs.Frames.{Frame, InParen, InIndex, InCall, InThen, InLength, State}
 use Rattle.ob_tree.proofs.Machine.{join_to, then_to, comma_to, close_paren, close_bracket, colon_to}
 use Rattle.ob_exprs.specs.declared.reader.Reader.{Reader}
 use Rattle.ob_exprs.specs.declared.reader.Answer.{Answer}
@@ -37,6 +37,34 @@ behind least p sign.CloseParen r = close_paren r.0 r.1
 behind least p sign.CloseBracket r = close_bracket r.0 r.1
 behind least p sign.Colon r = colon_to r.0 r.1
 behind least p s r = operator_behind least p s r
+
+-- an operand that can be called, and one that a string literal goes on with
+abbrev pub is_name : ExprTree → Bool
+is_name (ExprTree.Name m name) = true
+is_name e = false
+
+abbrev pub is_string : ExprTree → Bool
+is_string (ExprTree.Str m ss) = true
+is_string e = false
+
+-- what the newest node is that a comma, a closing parenthesis, a closing bracket or a colon ends a part of
+abbrev pub in_call : List Frame → Bool
+in_call (InCall m name es ∷ fs) = true
+in_call fs = false
+
+abbrev pub in_paren : List Frame → Bool
+in_paren (InParen m ∷ fs) = true
+in_paren (InCall m name es ∷ fs) = true
+in_paren fs = false
+
+abbrev pub in_bracket : List Frame → Bool
+in_bracket (InIndex m b ∷ fs) = true
+in_bracket (InLength h ds ∷ fs) = true
+in_bracket fs = false
+
+abbrev pub in_then : List Frame → Bool
+in_then (InThen m c ∷ fs) = true
+in_then fs = false
 
 -- the answer where nothing whole was read before
 abbrev pub answered : Option Reader → Answer

@@ -35,15 +35,15 @@ head_of (head.Member l n name a) = plain.OfMember (line_of l) n name a
 
 abbrev pub frame_of : Waiting → Frame
 frame_of (waiting.Paren p) = plain.InParen (mark p)
-frame_of (waiting.Index p b) = plain.InIndex (mark p) (expr_tree b.expr)
+frame_of (waiting.Index p b) = plain.InIndex (mark p) (expr_tree b.expr.value)
 frame_of (waiting.Call p name es) = plain.InCall (mark p) name (argument_trees es.items.items)
 frame_of (waiting.Step p down) = plain.InStep (mark p) down
 frame_of (waiting.Unary p s) = plain.InUnary (mark p) s
 frame_of (waiting.Size p) = plain.InSize (mark p)
 frame_of (waiting.Cast p t) = plain.InCast (mark p) (type_tree t.name)
-frame_of (waiting.Join p o l) = plain.InJoin (mark p) (infix_of o) (expr_tree l.expr)
-frame_of (waiting.Then p c) = plain.InThen (mark p) (expr_tree c.expr)
-frame_of (waiting.Else p c x) = plain.InElse (mark p) (expr_tree c.expr) (expr_tree x.expr)
+frame_of (waiting.Join p o l) = plain.InJoin (mark p) (infix_of o) (expr_tree l.expr.value)
+frame_of (waiting.Then p c) = plain.InThen (mark p) (expr_tree c.expr.value)
+frame_of (waiting.Else p c x) = plain.InElse (mark p) (expr_tree c.expr.value) (expr_tree x.expr.value)
 frame_of (waiting.Length h ds) = plain.InLength (head_of h) (dim_trees ds.items.items)
 frame_of (waiting.Type p z) = plain.InType (mark p) z
 frame_of (waiting.Struct b) = plain.InStruct (body_of b)

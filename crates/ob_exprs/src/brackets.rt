@@ -1,19 +1,19 @@
 ghost use Rattle.std.specs.Prelude.{◌≡◌, ◌≤◌, ◌<◌, ◌∷◌, IfOk, Some};
+ghost use Rattle.ob_tree.specs.Paths.{height_dims};
 ghost use Rattle.ob_tree.specs.ExpressionView.{dim_trees};
 ghost use Rattle.ob_tree.proofs.Frames.{Declare, Dims as dims_state, InLength, Operand};
-ghost use Rattle.ob_tree.proofs.Machine.{after_dims as after_dims_of, close_type as close_type_of, declare as declare_of, end_line as end_line_of, more_stars as more_stars_of, next_name as next_name_of};
+ghost use Rattle.ob_tree.proofs.Machine.{after_dims as after_dims_of, close_type as close_type_of, declare as declare_of, end_line as end_line_of, ended as ended_of, more_stars as more_stars_of, named as named_of, next_name as next_name_of};
 ghost use Rattle.ob_exprs.specs.Loads.{depth_of, load};
 ghost use Rattle.ob_exprs.specs.Reading.{Leads, held};
-ghost use Rattle.ob_exprs.specs.View.{head_of, line_of};
+ghost use Rattle.ob_exprs.specs.View.{body_of, head_of, line_of};
 
-use crate::lists::{add_members, add_name, no_dims, type_name};
+use crate::lists::{add_members, add_name, copied_with, declarator, no_dims, type_name};
 use crate::nodes::size_of_type;
-use crate::operands::copy_of;
 use crate::reader::Reader;
 use crate::stack::{Stack, push};
 use crate::state::{Body, Head, Line, Mode, Waiting};
 use crate::whole::Dims;
-use ob_base::NoMemory;
+use ob_base::{NoMemory, Text, let_go};
 use ob_tree::{Sign, TokenKind};
 use std::alloc::Global;
 
@@ -23,6 +23,10 @@ fn more_stars(stack: Stack, head: Head, dims: Dims) -> Option<Reader>
     requires { load (dims_state (head_of head) (dim_trees dims.items.items) (held stack)) ≤ 256 }
     ensures { Leads result (more_stars_of (head_of head) (dim_trees dims.items.items) (held stack)) }
 {
+    if 0 < dims.count {
+        let_go((head, dims));
+        return None;
+    }
     match head {
         Head::Type {
             place,
@@ -30,9 +34,6 @@ fn more_stars(stack: Stack, head: Head, dims: Dims) -> Option<Reader>
             spec,
             stars,
         } => {
-            if 0 < dims.count {
-                return None;
-            }
             let head = Head::Type {
                 place,
                 sized,
@@ -44,12 +45,20 @@ fn more_stars(stack: Stack, head: Head, dims: Dims) -> Option<Reader>
                 mode: Mode::Dims(head, dims),
             })
         }
-        Head::Member { .. } => None,
+        other => {
+            let_go((other, dims));
+            None
+        }
     }
 }
 
 /// The closing parenthesis of a type name.
-fn close_type(stack: Stack, head: Head, dims: Dims) -> Result<Option<Reader>, NoMemory>
+fn close_type(
+    alloc: Global,
+    stack: Stack,
+    head: Head,
+    dims: Dims,
+) -> Result<Option<Reader>, NoMemory>
     requires small { load (dims_state (head_of head) (dim_trees dims.items.items) (held stack)) ≤ 256 }
     requires shallow { depth_of (held stack) ≤ 1000 }
     ensures { IfOk result (λ o. Leads o (close_type_of (head_of head) (dim_trees dims.items.items) (held stack))) }
@@ -63,9 +72,10 @@ fn close_type(stack: Stack, head: Head, dims: Dims) -> Result<Option<Reader>, No
         } => {
             let name = type_name(spec, stars, dims);
             if sized {
+                let whole = size_of_type(alloc, place, name)?;
                 return Ok(Some(Reader {
                     stack,
-                    mode: Mode::After(size_of_type(place, name)),
+                    mode: Mode::After(whole),
                 }));
             }
             let stack = push(stack, Waiting::Cast(place, name))?;
@@ -74,8 +84,46 @@ fn close_type(stack: Stack, head: Head, dims: Dims) -> Result<Option<Reader>, No
                 mode: Mode::Operand,
             }))
         }
-        Head::Member { .. } => Ok(None),
+        other => {
+            let_go((other, dims));
+            Ok(None)
+        }
     }
+}
+
+/// The line with one name more.
+fn line_with_name(
+    line: Line,
+    stars: u32,
+    name: Text,
+    at: u32,
+    dims: Dims,
+) -> Result<Line, NoMemory>
+    requires low { height_dims (dim_trees dims.items.items) < 1000 }
+    requires few { stars < 1000 }
+    ensures { IfOk result (λ l. line_of l ≡ named_of (line_of line) stars name at (dim_trees dims.items.items)) }
+{
+    let Line { body, spec, names } = line;
+    let (names, (body, spec)) = add_name(names, declarator(stars, name, at, dims), (body, spec))?;
+    Ok(Line { body, spec, names })
+}
+
+/// The structure with one line more.
+fn body_with_line(line: Line) -> Result<Body, NoMemory>
+    ensures { IfOk result (λ b. body_of b ≡ ended_of (line_of line)) }
+{
+    let Line { body, spec, names } = line;
+    let Body {
+        first,
+        tag,
+        members,
+    } = body;
+    let (members, tag) = add_members(members, spec, names, tag)?;
+    Ok(Body {
+        first,
+        tag,
+        members,
+    })
 }
 
 /// A comma behind a member.
@@ -84,20 +132,21 @@ fn next_name(stack: Stack, head: Head, dims: Dims) -> Result<Option<Reader>, NoM
     ensures { IfOk result (λ o. Leads o (next_name_of (head_of head) (dim_trees dims.items.items) (held stack))) }
 {
     match head {
-        Head::Type { .. } => Ok(None),
         Head::Member {
             line,
             stars,
             name,
             at,
         } => {
-            let Line { body, spec, names } = line;
-            let names = add_name(names, stars, name, at, dims)?;
-            let line = Line { body, spec, names };
+            let line = line_with_name(line, stars, name, at, dims)?;
             Ok(Some(Reader {
                 stack,
                 mode: Mode::Declare(line, 0),
             }))
+        }
+        other => {
+            let_go((other, dims));
+            Ok(None)
         }
     }
 }
@@ -108,30 +157,22 @@ fn end_line(stack: Stack, head: Head, dims: Dims) -> Result<Option<Reader>, NoMe
     ensures { IfOk result (λ o. Leads o (end_line_of (head_of head) (dim_trees dims.items.items) (held stack))) }
 {
     match head {
-        Head::Type { .. } => Ok(None),
         Head::Member {
             line,
             stars,
             name,
             at,
         } => {
-            let Line { body, spec, names } = line;
-            let names = add_name(names, stars, name, at, dims)?;
-            let Body {
-                first,
-                tag,
-                members,
-            } = body;
-            let members = add_members(members, spec, names)?;
-            let body = Body {
-                first,
-                tag,
-                members,
-            };
+            let line = line_with_name(line, stars, name, at, dims)?;
+            let body = body_with_line(line)?;
             Ok(Some(Reader {
                 stack,
                 mode: Mode::Members(body),
             }))
+        }
+        other => {
+            let_go((other, dims));
+            Ok(None)
         }
     }
 }
@@ -151,6 +192,7 @@ fn open_bracket(stack: Stack, head: Head, dims: Dims) -> Result<Option<Reader>, 
 
 /// A token behind a row of brackets.
 pub fn after_dims(
+    alloc: Global,
     stack: Stack,
     head: Head,
     dims: Dims,
@@ -163,10 +205,13 @@ pub fn after_dims(
     match kind {
         TokenKind::Sign(Sign::OpenBracket) => open_bracket(stack, head, dims),
         TokenKind::Sign(Sign::Star) => Ok(more_stars(stack, head, dims)),
-        TokenKind::Sign(Sign::CloseParen) => close_type(stack, head, dims),
+        TokenKind::Sign(Sign::CloseParen) => close_type(alloc, stack, head, dims),
         TokenKind::Sign(Sign::Comma) => next_name(stack, head, dims),
         TokenKind::Sign(Sign::Semi) => end_line(stack, head, dims),
-        _ => Ok(None),
+        _ => {
+            let_go((head, dims));
+            Ok(None)
+        }
     }
 }
 
@@ -188,10 +233,11 @@ pub fn declare(
             mode: Mode::Declare(line, stars + 1),
         })),
         TokenKind::Name(text) => {
+            let (name, line) = copied_with(alloc, text, line)?;
             let head = Head::Member {
                 line,
                 stars,
-                name: copy_of(alloc, text)?,
+                name,
                 at,
             };
             Ok(Some(Reader {
@@ -199,6 +245,9 @@ pub fn declare(
                 mode: Mode::Dims(head, no_dims(alloc)),
             }))
         }
-        _ => Ok(None),
+        _ => {
+            let_go(line);
+            Ok(None)
+        }
     }
 }

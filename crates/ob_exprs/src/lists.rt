@@ -6,10 +6,19 @@ ghost use Rattle.ob_tree.proofs.Frames.{add_argument as add_argument_of, add_dim
 ghost use Rattle.ob_exprs.specs.Lists.{argument_trees, member_trees};
 ghost use Rattle.ob_exprs.specs.Loads.{count as count_of};
 
-use crate::whole::{Arguments, Dims, Members, Names, Whole, WholeSpec, WholeType};
-use ob_base::{NoMemory, Text};
+use crate::whole::{Arguments, Dims, Members, Names, Whole, WholeObj, WholeSpec, WholeType};
+use ob_base::{NoMemory, Text, push_with};
 use ob_tree::{Dim, Expr, MemberDecl, ObjDecl, Spec, TypeName};
 use std::alloc::Global;
+
+/// The bytes of a text in one of its own, and what the caller goes on with.
+pub fn copied_with<K: Drop>(alloc: Global, text: &Text, kept: K) -> Result<(Text, K), NoMemory>
+    ensures copied { IfOk result (λ r. r.0 ≡ text.now) }
+    ensures kept { IfOk result (λ r. r.1 ≡ kept) }
+{
+    let copy = text.copy(alloc)?;
+    Ok((copy, kept))
+}
 
 pub fn no_arguments(alloc: Global) -> Arguments
     ensures { argument_trees result.items.items ≡ ExprTrees.NoArguments }
@@ -20,26 +29,23 @@ pub fn no_arguments(alloc: Global) -> Arguments
     }
 }
 
+/// The arguments with one more, and what the caller goes on with.
 #[tactic(auto, using(crate::proofs::Views::arguments_pushed, crate::proofs::Views::arguments_pushed_height))]
-fn push_argument(items: Vec<Expr>, argument: Expr) -> Result<Vec<Expr>, NoMemory>
-    ensures pushed { IfOk result (λ v. argument_trees v.items ≡ add_argument_of (argument_trees items.items) (expr_tree argument)) }
-    ensures tall { IfOk result (λ v. height_arguments (argument_trees v.items) ≡ max (height_arguments (argument_trees items.items)) (height_of (expr_tree argument))) }
-{
-    let mut items = items;
-    items.push(argument)?;
-    Ok(items)
-}
-
-/// The arguments with one more.
-pub fn add_argument(arguments: Arguments, argument: Whole) -> Result<Arguments, NoMemory>
-    ensures added { IfOk result (λ a. argument_trees a.items.items ≡ add_argument_of (argument_trees arguments.items.items) (expr_tree argument.expr)) }
-    ensures tall { IfOk result (λ a. height_arguments (argument_trees a.items.items) ≡ max (height_arguments (argument_trees arguments.items.items)) (height_of (expr_tree argument.expr))) }
+pub fn add_argument<K: Drop>(
+    arguments: Arguments,
+    argument: Whole,
+    kept: K,
+) -> Result<(Arguments, K), NoMemory>
+    ensures added { IfOk result (λ r. argument_trees r.0.items.items ≡ add_argument_of (argument_trees arguments.items.items) (expr_tree argument.expr.value)) }
+    ensures tall { IfOk result (λ r. height_arguments (argument_trees r.0.items.items) ≡ max (height_arguments (argument_trees arguments.items.items)) (height_of (expr_tree argument.expr.value))) }
+    ensures kept { IfOk result (λ r. r.1 ≡ kept) }
 {
     let height = arguments.height.max(argument.height);
     let Arguments { items, .. } = arguments;
     let Whole { expr, .. } = argument;
-    let items = push_argument(items, expr)?;
-    Ok(Arguments { items, height })
+    let mut items = items;
+    let kept = push_with(&mut items, Box::into_inner(expr), kept)?;
+    Ok((Arguments { items, height }, kept))
 }
 
 pub fn no_dims(alloc: Global) -> Dims
@@ -52,35 +58,29 @@ pub fn no_dims(alloc: Global) -> Dims
     }
 }
 
+/// The brackets with one pair more, round this length, and what the caller goes on with.
 #[tactic(auto, using(crate::proofs::Views::dims_pushed, crate::proofs::Views::dims_pushed_height, crate::proofs::Views::dims_pushed_count))]
-fn push_dim(items: Vec<Dim>, length: Expr) -> Result<Vec<Dim>, NoMemory>
-    ensures pushed { IfOk result (λ v. dim_trees v.items ≡ add_dim_of (dim_trees items.items) (expr_tree length)) }
-    ensures tall { IfOk result (λ v. height_dims (dim_trees v.items) ≡ max (height_dims (dim_trees items.items)) (count_of (dim_trees items.items) + (1 + height_of (expr_tree length)))) }
-    ensures counted { IfOk result (λ v. count_of (dim_trees v.items) ≡ count_of (dim_trees items.items) + 1) }
-{
-    let mut items = items;
-    items.push(Dim {
-        length: Some(length),
-    })?;
-    Ok(items)
-}
-
-/// The brackets with one pair more, round this length.
-pub fn add_dim(dims: Dims, length: Whole) -> Result<Dims, NoMemory>
-    requires low { height_of (expr_tree length.expr) < 1000 }
+pub fn add_dim<K: Drop>(dims: Dims, length: Whole, kept: K) -> Result<(Dims, K), NoMemory>
+    requires low { height_of (expr_tree length.expr.value) < 1000 }
     requires few { count_of (dim_trees dims.items.items) < 1000 }
-    ensures { IfOk result (λ d. dim_trees d.items.items ≡ add_dim_of (dim_trees dims.items.items) (expr_tree length.expr)) }
+    ensures added { IfOk result (λ r. dim_trees r.0.items.items ≡ add_dim_of (dim_trees dims.items.items) (expr_tree length.expr.value)) }
+    ensures kept { IfOk result (λ r. r.1 ≡ kept) }
 {
     let height = dims.height.max(dims.count + (1 + length.height));
     let count = dims.count + 1;
     let Dims { items, .. } = dims;
     let Whole { expr, .. } = length;
-    let items = push_dim(items, expr)?;
-    Ok(Dims {
+    let mut items = items;
+    let dim = Dim {
+        length: Some(Box::into_inner(expr)),
+    };
+    let kept = push_with(&mut items, dim, kept)?;
+    let dims = Dims {
         items,
         count,
         height,
-    })
+    };
+    Ok((dims, kept))
 }
 
 pub fn no_names(alloc: Global) -> Names
@@ -92,46 +92,41 @@ pub fn no_names(alloc: Global) -> Names
     }
 }
 
+/// A declarator without an initialiser.
 #[tactic(auto, using(crate::proofs::Views::obj_made))]
-fn declared(stars: u32, name: Text, at: u32, dims: Vec<Dim>) -> ObjDecl
-    ensures { obj_tree result ≡ ObjTree.Bare stars name at (dim_trees dims.items) }
+pub fn declarator(stars: u32, name: Text, at: u32, dims: Dims) -> WholeObj
+    requires low { height_dims (dim_trees dims.items.items) < 1000 }
+    requires few { stars < 1000 }
+    ensures { obj_tree result.declarator ≡ ObjTree.Bare stars name at (dim_trees dims.items.items) }
 {
-    ObjDecl {
+    let height = stars + dims.height;
+    let Dims { items: dims, .. } = dims;
+    let declarator = ObjDecl {
         stars,
         name,
         at,
         dims,
         init: None,
-    }
+    };
+    WholeObj { declarator, height }
 }
 
+/// The names with one more, and what the caller goes on with.
 #[tactic(auto, using(crate::proofs::Views::objs_pushed, crate::proofs::Views::objs_pushed_height))]
-fn push_name(items: Vec<ObjDecl>, name: ObjDecl) -> Result<Vec<ObjDecl>, NoMemory>
-    ensures pushed { IfOk result (λ v. obj_trees v.items ≡ add_obj_of (obj_trees items.items) (obj_tree name)) }
-    ensures tall { IfOk result (λ v. height_objs (obj_trees v.items) ≡ max (height_objs (obj_trees items.items)) (height_obj (obj_tree name))) }
-{
-    let mut items = items;
-    items.push(name)?;
-    Ok(items)
-}
-
-/// The names with one more, of which these are the stars, the place and the brackets.
-pub fn add_name(
+pub fn add_name<K: Drop>(
     names: Names,
-    stars: u32,
-    name: Text,
-    at: u32,
-    dims: Dims,
-) -> Result<Names, NoMemory>
-    requires low { height_dims (dim_trees dims.items.items) < 1000 }
-    requires few { stars < 1000 }
-    ensures { IfOk result (λ n. obj_trees n.items.items ≡ add_obj_of (obj_trees names.items.items) (ObjTree.Bare stars name at (dim_trees dims.items.items))) }
+    name: WholeObj,
+    kept: K,
+) -> Result<(Names, K), NoMemory>
+    ensures added { IfOk result (λ r. obj_trees r.0.items.items ≡ add_obj_of (obj_trees names.items.items) (obj_tree name.declarator)) }
+    ensures kept { IfOk result (λ r. r.1 ≡ kept) }
 {
-    let height = names.height.max(stars + dims.height);
+    let height = names.height.max(name.height);
     let Names { items, .. } = names;
-    let Dims { items: dims, .. } = dims;
-    let items = push_name(items, declared(stars, name, at, dims))?;
-    Ok(Names { items, height })
+    let WholeObj { declarator, .. } = name;
+    let mut items = items;
+    let kept = push_with(&mut items, declarator, kept)?;
+    Ok((Names { items, height }, kept))
 }
 
 pub fn no_members(alloc: Global) -> Members
@@ -143,30 +138,24 @@ pub fn no_members(alloc: Global) -> Members
     }
 }
 
+/// The members with one line more, and what the caller goes on with.
 #[tactic(auto, using(crate::proofs::Views::members_pushed, crate::proofs::Views::members_pushed_height))]
-fn push_member(
-    items: Vec<MemberDecl>,
-    spec: Spec,
-    names: Vec<ObjDecl>,
-) -> Result<Vec<MemberDecl>, NoMemory>
-    ensures pushed { IfOk result (λ v. member_trees v.items ≡ add_member_of (member_trees items.items) (spec_tree spec) (obj_trees names.items)) }
-    ensures tall { IfOk result (λ v. height_members (member_trees v.items) ≡ max (height_members (member_trees items.items)) (max (height_spec (spec_tree spec)) (height_objs (obj_trees names.items)))) }
-{
-    let mut items = items;
-    items.push(MemberDecl { spec, names })?;
-    Ok(items)
-}
-
-/// The members with one line more.
-pub fn add_members(members: Members, spec: WholeSpec, names: Names) -> Result<Members, NoMemory>
-    ensures { IfOk result (λ m. member_trees m.items.items ≡ add_member_of (member_trees members.items.items) (spec_tree spec.spec) (obj_trees names.items.items)) }
+pub fn add_members<K: Drop>(
+    members: Members,
+    spec: WholeSpec,
+    names: Names,
+    kept: K,
+) -> Result<(Members, K), NoMemory>
+    ensures added { IfOk result (λ r. member_trees r.0.items.items ≡ add_member_of (member_trees members.items.items) (spec_tree spec.spec) (obj_trees names.items.items)) }
+    ensures kept { IfOk result (λ r. r.1 ≡ kept) }
 {
     let height = members.height.max(spec.height.max(names.height));
     let Members { items, .. } = members;
     let WholeSpec { spec, .. } = spec;
     let Names { items: names, .. } = names;
-    let items = push_member(items, spec, names)?;
-    Ok(Members { items, height })
+    let mut items = items;
+    let kept = push_with(&mut items, MemberDecl { spec, names }, kept)?;
+    Ok((Members { items, height }, kept))
 }
 
 #[tactic(auto, using(crate::proofs::Views::type_made))]

@@ -1,6 +1,6 @@
 ghost use Rattle.std.specs.Prelude.{◌≡◌, ◌<◌, ◌∷◌, [], Bool, IfOk};
 ghost use Rattle.ob_tree.specs.Trees.{ExprTree};
-ghost use Rattle.ob_tree.specs.Levels.{infix_level};
+ghost use Rattle.ob_tree.specs.Levels.{infix_level, level_of as level_of_tree};
 ghost use Rattle.ob_tree.specs.Paths.{height as height_of, height_type, height_arguments};
 ghost use Rattle.ob_tree.specs.ExpressionView.{expr_tree, type_tree};
 ghost use Rattle.ob_tree.proofs.Machine.{selected as selected_of};
@@ -10,17 +10,10 @@ ghost use Rattle.ob_exprs.specs.View.{mark, infix_of};
 use crate::operators::level_of_operator;
 use crate::state::{Operator, Place};
 use crate::whole::{Arguments, Whole, WholeType};
-use ob_base::{NoMemory, Text};
+use ob_base::{NoMemory, Text, boxed, listed};
 use ob_tree::{Expr, ExprNode, Sign};
 use ob_words::IntType;
 use std::alloc::Global;
-
-fn boxed(alloc: Global, whole: Whole) -> Result<Box<Expr>, NoMemory>
-    ensures { IfOk result (λ b. b.value ≡ whole.expr) }
-{
-    let Whole { expr, .. } = whole;
-    Ok(Box::new(alloc, expr)?)
-}
 
 /// An expression at a place.
 fn placed(place: Place, node: ExprNode) -> Expr
@@ -34,84 +27,86 @@ fn placed(place: Place, node: ExprNode) -> Expr
     }
 }
 
-pub fn name(place: Place, name: Text) -> Whole
-    ensures { expr_tree result.expr ≡ ExprTree.Name (mark place) name }
+/// The operand of this expression, which is of this nonterminal and has this many nodes on its
+/// longest path.
+fn whole(alloc: Global, expr: Expr, height: u32, level: u32) -> Result<Whole, NoMemory>
+    requires high { height ≡ height_of (expr_tree expr) }
+    requires kind { level ≡ level_of_tree (expr_tree expr) }
+    ensures { IfOk result (λ w. w.expr.value ≡ expr) }
 {
-    Whole {
-        expr: placed(place, ExprNode::Name(name)),
-        height: 1,
-        level: 16,
-    }
+    let expr = boxed(alloc, expr)?;
+    Ok(Whole {
+        expr,
+        height,
+        level,
+    })
 }
 
-pub fn number(place: Place, value: i128, ty: IntType) -> Whole
-    ensures { expr_tree result.expr ≡ ExprTree.Number (mark place) value ty }
+pub fn name(alloc: Global, place: Place, name: Text) -> Result<Whole, NoMemory>
+    ensures { IfOk result (λ w. expr_tree w.expr.value ≡ ExprTree.Name (mark place) name) }
 {
-    Whole {
-        expr: placed(place, ExprNode::Number { value, ty }),
-        height: 1,
-        level: 16,
-    }
+    whole(alloc, placed(place, ExprNode::Name(name)), 1, 16)
 }
 
-pub fn null(place: Place) -> Whole
-    ensures { expr_tree result.expr ≡ ExprTree.Null (mark place) }
+pub fn number(alloc: Global, place: Place, value: i128, ty: IntType) -> Result<Whole, NoMemory>
+    ensures { IfOk result (λ w. expr_tree w.expr.value ≡ ExprTree.Number (mark place) value ty) }
 {
-    Whole {
-        expr: placed(place, ExprNode::Null),
-        height: 1,
-        level: 16,
-    }
+    whole(alloc, placed(place, ExprNode::Number { value, ty }), 1, 16)
 }
 
-pub fn eof(place: Place) -> Whole
-    ensures { expr_tree result.expr ≡ ExprTree.Eof (mark place) }
+pub fn null(alloc: Global, place: Place) -> Result<Whole, NoMemory>
+    ensures { IfOk result (λ w. expr_tree w.expr.value ≡ ExprTree.Null (mark place)) }
 {
-    Whole {
-        expr: placed(place, ExprNode::Eof),
-        height: 1,
-        level: 16,
-    }
+    whole(alloc, placed(place, ExprNode::Null), 1, 16)
+}
+
+pub fn eof(alloc: Global, place: Place) -> Result<Whole, NoMemory>
+    ensures { IfOk result (λ w. expr_tree w.expr.value ≡ ExprTree.Eof (mark place)) }
+{
+    whole(alloc, placed(place, ExprNode::Eof), 1, 16)
+}
+
+/// String literals side by side.
+pub fn strings(alloc: Global, place: Place, texts: Vec<Text>) -> Result<Whole, NoMemory>
+    ensures { IfOk result (λ w. expr_tree w.expr.value ≡ ExprTree.Str (mark place) texts.items) }
+{
+    whole(alloc, placed(place, ExprNode::Str(texts)), 1, 16)
 }
 
 pub fn string(alloc: Global, place: Place, text: Text) -> Result<Whole, NoMemory>
-    ensures { IfOk result (λ w. expr_tree w.expr ≡ ExprTree.Str (mark place) (text ∷ [])) }
+    ensures { IfOk result (λ w. expr_tree w.expr.value ≡ ExprTree.Str (mark place) (text ∷ [])) }
 {
-    let mut strings = Vec::new(alloc);
-    strings.push(text)?;
-    Ok(Whole {
-        expr: placed(place, ExprNode::Str(strings)),
-        height: 1,
-        level: 16,
-    })
+    let texts = listed(alloc, text)?;
+    strings(alloc, place, texts)
 }
 
 pub fn paren(alloc: Global, place: Place, inner: Whole) -> Result<Whole, NoMemory>
-    requires { height_of (expr_tree inner.expr) < 1000 }
-    ensures { IfOk result (λ w. expr_tree w.expr ≡ ExprTree.Paren (mark place) (expr_tree inner.expr)) }
+    requires { height_of (expr_tree inner.expr.value) < 1000 }
+    ensures { IfOk result (λ w. expr_tree w.expr.value ≡ ExprTree.Paren (mark place) (expr_tree inner.expr.value)) }
 {
-    let height = inner.height + 1;
-    let inner = boxed(alloc, inner)?;
-    Ok(Whole {
-        expr: placed(place, ExprNode::Paren(inner)),
-        height,
-        level: 16,
-    })
+    let Whole { expr, height, .. } = inner;
+    whole(
+        alloc,
+        placed(place, ExprNode::Paren(expr)),
+        height + 1,
+        16,
+    )
 }
 
 pub fn index(alloc: Global, place: Place, base: Whole, index: Whole) -> Result<Whole, NoMemory>
-    requires low { height_of (expr_tree base.expr) < 1000 }
-    requires small { height_of (expr_tree index.expr) < 1000 }
-    ensures { IfOk result (λ w. expr_tree w.expr ≡ ExprTree.Index (mark place) (expr_tree base.expr) (expr_tree index.expr)) }
+    requires low { height_of (expr_tree base.expr.value) < 1000 }
+    requires small { height_of (expr_tree index.expr.value) < 1000 }
+    ensures { IfOk result (λ w. expr_tree w.expr.value ≡ ExprTree.Index (mark place) (expr_tree base.expr.value) (expr_tree index.expr.value)) }
 {
     let height = base.height.max(index.height) + 1;
-    let base = boxed(alloc, base)?;
-    let index = boxed(alloc, index)?;
-    Ok(Whole {
-        expr: placed(place, ExprNode::Index(base, index)),
+    let Whole { expr: base, .. } = base;
+    let Whole { expr: index, .. } = index;
+    whole(
+        alloc,
+        placed(place, ExprNode::Index(base, index)),
         height,
-        level: 15,
-    })
+        15,
+    )
 }
 
 fn call_node(place: Place, name: Text, items: Vec<Expr>) -> Expr
@@ -120,16 +115,17 @@ fn call_node(place: Place, name: Text, items: Vec<Expr>) -> Expr
     placed(place, ExprNode::Call(name, items))
 }
 
-pub fn call(place: Place, name: Text, arguments: Arguments) -> Whole
+pub fn call(
+    alloc: Global,
+    place: Place,
+    name: Text,
+    arguments: Arguments,
+) -> Result<Whole, NoMemory>
     requires { height_arguments (argument_trees arguments.items.items) < 1000 }
-    ensures { expr_tree result.expr ≡ ExprTree.Call (mark place) name (argument_trees arguments.items.items) }
+    ensures { IfOk result (λ w. expr_tree w.expr.value ≡ ExprTree.Call (mark place) name (argument_trees arguments.items.items)) }
 {
     let Arguments { items, height, .. } = arguments;
-    Whole {
-        expr: call_node(place, name, items),
-        height: height + 1,
-        level: 16,
-    }
+    whole(alloc, call_node(place, name, items), height + 1, 16)
 }
 
 /// A member of a structure or, where `arrow`, of what a pointer points to.
@@ -140,21 +136,16 @@ pub fn selected(
     base: Whole,
     name: Text,
 ) -> Result<Whole, NoMemory>
-    requires { height_of (expr_tree base.expr) < 1000 }
-    ensures { IfOk result (λ w. expr_tree w.expr ≡ selected_of (mark place) arrow (expr_tree base.expr) name) }
+    requires { height_of (expr_tree base.expr.value) < 1000 }
+    ensures { IfOk result (λ w. expr_tree w.expr.value ≡ selected_of (mark place) arrow (expr_tree base.expr.value) name) }
 {
-    let height = base.height + 1;
-    let base = boxed(alloc, base)?;
+    let Whole { expr, height, .. } = base;
     let node = if arrow {
-        ExprNode::Arrow(base, name)
+        ExprNode::Arrow(expr, name)
     } else {
-        ExprNode::Member(base, name)
+        ExprNode::Member(expr, name)
     };
-    Ok(Whole {
-        expr: placed(place, node),
-        height,
-        level: 15,
-    })
+    whole(alloc, placed(place, node), height + 1, 15)
 }
 
 pub fn step_behind(
@@ -163,23 +154,18 @@ pub fn step_behind(
     down: bool,
     operand: Whole,
 ) -> Result<Whole, NoMemory>
-    requires { height_of (expr_tree operand.expr) < 1000 }
-    ensures { IfOk result (λ w. expr_tree w.expr ≡ ExprTree.Step (mark place) Bool.true down (expr_tree operand.expr)) }
+    requires { height_of (expr_tree operand.expr.value) < 1000 }
+    ensures { IfOk result (λ w. expr_tree w.expr.value ≡ ExprTree.Step (mark place) Bool.true down (expr_tree operand.expr.value)) }
 {
-    let height = operand.height + 1;
-    let e = boxed(alloc, operand)?;
-    Ok(Whole {
-        expr: placed(
-            place,
-            ExprNode::Step {
-                post: true,
-                down,
-                e,
-            },
-        ),
-        height,
-        level: 15,
-    })
+    let Whole {
+        expr: e, height, ..
+    } = operand;
+    let node = ExprNode::Step {
+        post: true,
+        down,
+        e,
+    };
+    whole(alloc, placed(place, node), height + 1, 15)
 }
 
 pub fn step_before(
@@ -188,76 +174,73 @@ pub fn step_before(
     down: bool,
     operand: Whole,
 ) -> Result<Whole, NoMemory>
-    requires { height_of (expr_tree operand.expr) < 1000 }
-    ensures { IfOk result (λ w. expr_tree w.expr ≡ ExprTree.Step (mark place) Bool.false down (expr_tree operand.expr)) }
+    requires { height_of (expr_tree operand.expr.value) < 1000 }
+    ensures { IfOk result (λ w. expr_tree w.expr.value ≡ ExprTree.Step (mark place) Bool.false down (expr_tree operand.expr.value)) }
 {
-    let height = operand.height + 1;
-    let e = boxed(alloc, operand)?;
-    Ok(Whole {
-        expr: placed(
-            place,
-            ExprNode::Step {
-                post: false,
-                down,
-                e,
-            },
-        ),
-        height,
-        level: 14,
-    })
+    let Whole {
+        expr: e, height, ..
+    } = operand;
+    let node = ExprNode::Step {
+        post: false,
+        down,
+        e,
+    };
+    whole(alloc, placed(place, node), height + 1, 14)
 }
 
 pub fn unary(alloc: Global, place: Place, sign: Sign, operand: Whole) -> Result<Whole, NoMemory>
-    requires { height_of (expr_tree operand.expr) < 1000 }
-    ensures { IfOk result (λ w. expr_tree w.expr ≡ ExprTree.Unary (mark place) sign (expr_tree operand.expr)) }
+    requires { height_of (expr_tree operand.expr.value) < 1000 }
+    ensures { IfOk result (λ w. expr_tree w.expr.value ≡ ExprTree.Unary (mark place) sign (expr_tree operand.expr.value)) }
 {
-    let height = operand.height + 1;
-    let operand = boxed(alloc, operand)?;
-    Ok(Whole {
-        expr: placed(place, ExprNode::Unary(sign, operand)),
-        height,
-        level: 14,
-    })
+    let Whole { expr, height, .. } = operand;
+    whole(
+        alloc,
+        placed(place, ExprNode::Unary(sign, expr)),
+        height + 1,
+        14,
+    )
 }
 
 pub fn size_of_expr(alloc: Global, place: Place, operand: Whole) -> Result<Whole, NoMemory>
-    requires { height_of (expr_tree operand.expr) < 1000 }
-    ensures { IfOk result (λ w. expr_tree w.expr ≡ ExprTree.SizeExpr (mark place) (expr_tree operand.expr)) }
+    requires { height_of (expr_tree operand.expr.value) < 1000 }
+    ensures { IfOk result (λ w. expr_tree w.expr.value ≡ ExprTree.SizeExpr (mark place) (expr_tree operand.expr.value)) }
 {
-    let height = operand.height + 1;
-    let operand = boxed(alloc, operand)?;
-    Ok(Whole {
-        expr: placed(place, ExprNode::SizeExpr(operand)),
-        height,
-        level: 14,
-    })
+    let Whole { expr, height, .. } = operand;
+    whole(
+        alloc,
+        placed(place, ExprNode::SizeExpr(expr)),
+        height + 1,
+        14,
+    )
 }
 
-pub fn size_of_type(place: Place, name: WholeType) -> Whole
+pub fn size_of_type(alloc: Global, place: Place, name: WholeType) -> Result<Whole, NoMemory>
     requires { height_type (type_tree name.name) < 1000 }
-    ensures { expr_tree result.expr ≡ ExprTree.SizeType (mark place) (type_tree name.name) }
+    ensures { IfOk result (λ w. expr_tree w.expr.value ≡ ExprTree.SizeType (mark place) (type_tree name.name)) }
 {
     let WholeType { name, height, .. } = name;
-    Whole {
-        expr: placed(place, ExprNode::SizeType(name)),
-        height: height + 1,
-        level: 14,
-    }
+    whole(
+        alloc,
+        placed(place, ExprNode::SizeType(name)),
+        height + 1,
+        14,
+    )
 }
 
 pub fn cast(alloc: Global, place: Place, name: WholeType, operand: Whole) -> Result<Whole, NoMemory>
     requires low { height_type (type_tree name.name) < 1000 }
-    requires small { height_of (expr_tree operand.expr) < 1000 }
-    ensures { IfOk result (λ w. expr_tree w.expr ≡ ExprTree.Cast (mark place) (type_tree name.name) (expr_tree operand.expr)) }
+    requires small { height_of (expr_tree operand.expr.value) < 1000 }
+    ensures { IfOk result (λ w. expr_tree w.expr.value ≡ ExprTree.Cast (mark place) (type_tree name.name) (expr_tree operand.expr.value)) }
 {
     let height = name.height.max(operand.height) + 1;
-    let operand = boxed(alloc, operand)?;
     let WholeType { name, .. } = name;
-    Ok(Whole {
-        expr: placed(place, ExprNode::Cast(name, operand)),
+    let Whole { expr, .. } = operand;
+    whole(
+        alloc,
+        placed(place, ExprNode::Cast(name, expr)),
         height,
-        level: 13,
-    })
+        13,
+    )
 }
 
 pub fn conditional(
@@ -267,21 +250,22 @@ pub fn conditional(
     then: Whole,
     other: Whole,
 ) -> Result<Whole, NoMemory>
-    requires low { height_of (expr_tree test.expr) < 1000 }
-    requires middle { height_of (expr_tree then.expr) < 1000 }
-    requires small { height_of (expr_tree other.expr) < 1000 }
-    ensures { IfOk result (λ w. expr_tree w.expr
-        ≡ ExprTree.Cond (mark place) (expr_tree test.expr) (expr_tree then.expr) (expr_tree other.expr)) }
+    requires low { height_of (expr_tree test.expr.value) < 1000 }
+    requires middle { height_of (expr_tree then.expr.value) < 1000 }
+    requires small { height_of (expr_tree other.expr.value) < 1000 }
+    ensures { IfOk result (λ w. expr_tree w.expr.value
+        ≡ ExprTree.Cond (mark place) (expr_tree test.expr.value) (expr_tree then.expr.value) (expr_tree other.expr.value)) }
 {
     let height = test.height.max(then.height.max(other.height)) + 1;
-    let test = boxed(alloc, test)?;
-    let then = boxed(alloc, then)?;
-    let other = boxed(alloc, other)?;
-    Ok(Whole {
-        expr: placed(place, ExprNode::Cond(test, then, other)),
+    let Whole { expr: test, .. } = test;
+    let Whole { expr: then, .. } = then;
+    let Whole { expr: other, .. } = other;
+    whole(
+        alloc,
+        placed(place, ExprNode::Cond(test, then, other)),
         height,
-        level: 2,
-    })
+        2,
+    )
 }
 
 fn joined(place: Place, operator: Operator, left: Box<Expr>, right: Box<Expr>) -> Expr
@@ -302,16 +286,17 @@ pub fn join(
     left: Whole,
     right: Whole,
 ) -> Result<Whole, NoMemory>
-    requires low { height_of (expr_tree left.expr) < 1000 }
-    requires small { height_of (expr_tree right.expr) < 1000 }
-    ensures { IfOk result (λ w. expr_tree w.expr ≡ ExprTree.Join (mark place) (infix_of operator) (expr_tree left.expr) (expr_tree right.expr)) }
+    requires low { height_of (expr_tree left.expr.value) < 1000 }
+    requires small { height_of (expr_tree right.expr.value) < 1000 }
+    ensures { IfOk result (λ w. expr_tree w.expr.value ≡ ExprTree.Join (mark place) (infix_of operator) (expr_tree left.expr.value) (expr_tree right.expr.value)) }
 {
     let height = left.height.max(right.height) + 1;
-    let left = boxed(alloc, left)?;
-    let right = boxed(alloc, right)?;
-    Ok(Whole {
-        expr: joined(place, operator, left, right),
+    let Whole { expr: left, .. } = left;
+    let Whole { expr: right, .. } = right;
+    whole(
+        alloc,
+        joined(place, operator, left, right),
         height,
-        level: level_of_operator(operator),
-    })
+        level_of_operator(operator),
+    )
 }

@@ -12,17 +12,9 @@ use crate::reader::Reader;
 use crate::spec_nodes::{integer, size_t, void};
 use crate::stack::{Stack, push};
 use crate::state::{Mode, Place, Waiting};
-use ob_base::{NoMemory, Text};
+use ob_base::{NoMemory, listed};
 use ob_tree::{Keyword, Sign, TokenKind};
 use std::alloc::Global;
-
-pub fn copy_of(alloc: Global, text: &Text) -> Result<Text, NoMemory>
-    ensures { IfOk result (λ t. t ≡ text.now) }
-{
-    let mut copy = Text::new(alloc);
-    copy.add(text.bytes())?;
-    Ok(copy)
-}
 
 /// Pushes a node that waits for an operand.
 pub fn waits(stack: Stack, waiting: Waiting) -> Result<Option<Reader>, NoMemory>
@@ -60,16 +52,21 @@ pub fn operand_sign(stack: Stack, sign: Sign, place: Place) -> Result<Option<Rea
 }
 
 /// A word that begins an operand.
-pub fn operand_word(stack: Stack, word: Keyword, place: Place) -> Option<Reader>
-    ensures { Leads result (operand_word_of (mark place) word (held stack)) }
+pub fn operand_word(
+    alloc: Global,
+    stack: Stack,
+    word: Keyword,
+    place: Place,
+) -> Result<Option<Reader>, NoMemory>
+    ensures { IfOk result (λ o. Leads o (operand_word_of (mark place) word (held stack))) }
 {
     let mode = match word {
-        Keyword::Null => Mode::After(null(place)),
-        Keyword::Eof => Mode::After(eof(place)),
+        Keyword::Null => Mode::After(null(alloc, place)?),
+        Keyword::Eof => Mode::After(eof(alloc, place)?),
         Keyword::Sizeof => Mode::Size(place),
-        _ => return None,
+        _ => return Ok(None),
     };
-    Some(Reader { stack, mode })
+    Ok(Some(Reader { stack, mode }))
 }
 
 /// A token that begins an operand.
@@ -83,11 +80,11 @@ pub fn operand(
     ensures { IfOk result (λ o. Leads o (operand_of (mark place) kind.now (held stack))) }
 {
     let whole = match kind {
-        TokenKind::Word(word) => return Ok(operand_word(stack, *word, place)),
+        TokenKind::Word(word) => return operand_word(alloc, stack, *word, place),
         TokenKind::Sign(sign) => return operand_sign(stack, *sign, place),
-        TokenKind::Name(text) => name(place, copy_of(alloc, text)?),
-        TokenKind::Number { value, ty } => number(place, *value, *ty),
-        TokenKind::Str(text) => string(alloc, place, copy_of(alloc, text)?)?,
+        TokenKind::Name(text) => name(alloc, place, text.copy(alloc)?)?,
+        TokenKind::Number { value, ty } => number(alloc, place, *value, *ty)?,
+        TokenKind::Str(text) => string(alloc, place, text.copy(alloc)?)?,
     };
     Ok(Some(Reader {
         stack,
@@ -121,8 +118,7 @@ fn integer_word(
 ) -> Result<Option<Reader>, NoMemory>
     ensures { IfOk result (λ o. Leads o (Some (AfterSpec (SpecTree.Integer first (word ∷ [])) (held stack)))) }
 {
-    let mut words = Vec::new(alloc);
-    words.push(word)?;
+    let words = listed(alloc, word)?;
     Ok(Some(Reader {
         stack,
         mode: Mode::AfterSpec(integer(first, words)),

@@ -3,23 +3,24 @@ ghost use Rattle.ob_tree.specs.Levels.{mark_of};
 ghost use Rattle.ob_tree.specs.ExpressionView.{expr_tree};
 ghost use Rattle.ob_tree.proofs.Frames.{After, at_sign};
 ghost use Rattle.ob_tree.proofs.Machine.{call_to, index_to, select_to, step_to, string_to};
+ghost use Rattle.ob_exprs.specs.Behind.{is_name as is_name_of, is_string as is_string_of};
 ghost use Rattle.ob_exprs.specs.Loads.{load};
 ghost use Rattle.ob_exprs.specs.Reading.{Answers, held};
 ghost use Rattle.ob_exprs.specs.View.{mark};
 
-use crate::nodes::step_behind;
+use crate::nodes::{step_behind, strings};
 use crate::reader::{Answer, Reader};
 use crate::stack::{Stack, push};
 use crate::state::{Mode, Place, Waiting};
 use crate::whole::Whole;
-use ob_base::{NoMemory, Text};
+use ob_base::{NoMemory, Text, with_last};
 use ob_tree::{Expr, ExprNode};
 use std::alloc::Global;
 
 /// Where a node stands that begins with the operand and has its sign at `at`.
 #[tactic(auto, using(crate::proofs::Behinds::sign_made))]
 pub fn sign_place(whole: &Whole, at: u32) -> Place
-    ensures { mark result ≡ at_sign (mark_of (expr_tree whole.now.expr)) at }
+    ensures { mark result ≡ at_sign (mark_of (expr_tree whole.now.expr.value)) at }
 {
     Place {
         first: whole.expr.first,
@@ -31,8 +32,8 @@ pub fn sign_place(whole: &Whole, at: u32) -> Place
 /// An opening bracket behind an operand.
 #[tactic(auto, using(crate::proofs::Behinds::shallow_2000))]
 pub fn index(stack: Stack, whole: Whole, at: u32) -> Result<Answer, NoMemory>
-    requires { load (After (expr_tree whole.expr) (held stack)) ≤ 256 }
-    ensures { IfOk result (λ a. Answers (After (expr_tree whole.expr) (held stack)) a (index_to at (expr_tree whole.expr) (held stack))) }
+    requires { load (After (expr_tree whole.expr.value) (held stack)) ≤ 256 }
+    ensures { IfOk result (λ a. Answers (After (expr_tree whole.expr.value) (held stack)) a (index_to at (expr_tree whole.expr.value) (held stack))) }
 {
     if whole.level < 15 {
         return Ok(Answer::Stays(Reader {
@@ -50,7 +51,7 @@ pub fn index(stack: Stack, whole: Whole, at: u32) -> Result<Answer, NoMemory>
 
 /// A `.` or, where `arrow`, a `->` behind an operand.
 pub fn select(stack: Stack, whole: Whole, at: u32, arrow: bool) -> Answer
-    ensures { Answers (After (expr_tree whole.expr) (held stack)) result (select_to at arrow (expr_tree whole.expr) (held stack)) }
+    ensures { Answers (After (expr_tree whole.expr.value) (held stack)) result (select_to at arrow (expr_tree whole.expr.value) (held stack)) }
 {
     if whole.level < 15 {
         return Answer::Stays(Reader {
@@ -73,8 +74,8 @@ pub fn step(
     at: u32,
     down: bool,
 ) -> Result<Answer, NoMemory>
-    requires { load (After (expr_tree whole.expr) (held stack)) ≤ 256 }
-    ensures { IfOk result (λ a. Answers (After (expr_tree whole.expr) (held stack)) a (step_to at down (expr_tree whole.expr) (held stack))) }
+    requires { load (After (expr_tree whole.expr.value) (held stack)) ≤ 256 }
+    ensures { IfOk result (λ a. Answers (After (expr_tree whole.expr.value) (held stack)) a (step_to at down (expr_tree whole.expr.value) (held stack))) }
 {
     if whole.level < 15 {
         return Ok(Answer::Stays(Reader {
@@ -90,89 +91,74 @@ pub fn step(
     }))
 }
 
-/// An opening parenthesis behind an operand: a name is called.
-pub fn call(stack: Stack, whole: Whole) -> Answer
-    ensures { Answers (After (expr_tree whole.expr) (held stack)) result (call_to (expr_tree whole.expr) (held stack)) }
+/// Whether the operand is a name.
+fn is_name(whole: &Whole) -> bool
+    ensures { result ≡ is_name_of (expr_tree whole.now.expr.value) }
 {
-    let Whole {
-        expr,
-        height,
-        level,
-        ..
-    } = whole;
+    matches!(whole.expr.node, ExprNode::Name(_))
+}
+
+/// An opening parenthesis behind an operand: a name is called.
+#[tactic(auto, using(crate::proofs::Behinds::no_call))]
+pub fn call(stack: Stack, whole: Whole) -> Answer
+    ensures { Answers (After (expr_tree whole.expr.value) (held stack)) result (call_to (expr_tree whole.expr.value) (held stack)) }
+{
+    if !is_name(&whole) {
+        return Answer::Stays(Reader {
+            stack,
+            mode: Mode::After(whole),
+        });
+    }
+    let Whole { expr, .. } = whole;
     let Expr {
         first,
         at,
         line,
         node,
-    } = expr;
-    let mode = match node {
-        ExprNode::Name(name) => Mode::Called(Place { first, at, line }, name),
-        node => {
-            return Answer::Stays(Reader {
-                stack,
-                mode: Mode::After(Whole {
-                    expr: Expr {
-                        first,
-                        at,
-                        line,
-                        node,
-                    },
-                    height,
-                    level,
-                }),
-            });
-        }
-    };
-    Answer::Goes(Reader { stack, mode })
+    } = Box::into_inner(expr);
+    match node {
+        ExprNode::Name(name) => Answer::Goes(Reader {
+            stack,
+            mode: Mode::Called(Place { first, at, line }, name),
+        }),
+        _ => unreachable!(),
+    }
+}
+
+/// Whether the operand is a string literal, or several side by side.
+fn is_string(whole: &Whole) -> bool
+    ensures { result ≡ is_string_of (expr_tree whole.now.expr.value) }
+{
+    matches!(whole.expr.node, ExprNode::Str(_))
 }
 
 /// A string literal behind an operand.
-pub fn string(stack: Stack, whole: Whole, text: Text) -> Result<Answer, NoMemory>
-    ensures { IfOk result (λ a. Answers (After (expr_tree whole.expr) (held stack)) a (string_to text (expr_tree whole.expr) (held stack))) }
+#[tactic(auto, using(crate::proofs::Behinds::no_string))]
+pub fn string(alloc: Global, stack: Stack, whole: Whole, text: &Text) -> Result<Answer, NoMemory>
+    ensures { IfOk result (λ a. Answers (After (expr_tree whole.expr.value) (held stack)) a (string_to text.now (expr_tree whole.expr.value) (held stack))) }
 {
-    let Whole {
-        expr,
-        height,
-        level,
-        ..
-    } = whole;
+    if !is_string(&whole) {
+        return Ok(Answer::Stays(Reader {
+            stack,
+            mode: Mode::After(whole),
+        }));
+    }
+    let Whole { expr, .. } = whole;
     let Expr {
         first,
         at,
         line,
         node,
-    } = expr;
+    } = Box::into_inner(expr);
     match node {
-        ExprNode::Str(strings) => {
-            let mut strings = strings;
-            strings.push(text)?;
+        ExprNode::Str(texts) => {
+            let texts = with_last(texts, text.copy(alloc)?)?;
+            let whole = strings(alloc, Place { first, at, line }, texts)?;
             Ok(Answer::Goes(Reader {
                 stack,
-                mode: Mode::After(Whole {
-                    expr: Expr {
-                        first,
-                        at,
-                        line,
-                        node: ExprNode::Str(strings),
-                    },
-                    height: 1,
-                    level: 16,
-                }),
+                mode: Mode::After(whole),
             }))
         }
-        node => Ok(Answer::Stays(Reader {
-            stack,
-            mode: Mode::After(Whole {
-                expr: Expr {
-                    first,
-                    at,
-                    line,
-                    node,
-                },
-                height,
-                level,
-            }),
-        })),
+        _ => unreachable!(),
     }
 }

@@ -1,19 +1,19 @@
 ghost use Rattle.std.specs.Prelude.{◌≡◌, ◌≤◌, ◌^◌, [], IfOk, length, option_map};
-ghost use Rattle.ob_tree.specs.declared.faults.SyntaxFault.TheVariants as syntax;
 ghost use Rattle.ob_tree.specs.ExpressionView.{expr_tree, spec_tree};
-ghost use Rattle.ob_tree.proofs.Frames.{Operand};
+ghost use Rattle.ob_tree.proofs.Frames.{After, AfterSpec, Operand};
 ghost use Rattle.ob_tree.proofs.Machine.{finish as finish_of, finish_spec as finish_spec_of};
 ghost use Rattle.ob_exprs.specs.Loads.{load};
-ghost use Rattle.ob_exprs.specs.Reading.{state_of};
+ghost use Rattle.ob_exprs.specs.Reading.{held, state_of};
 ghost use Rattle.ob_exprs.specs.Reads.{Reads, reading};
 
 use crate::newest::newest;
 use crate::reader::{Answer, Reader};
 use crate::reduce::reduce;
-use crate::stack::empty;
+use crate::stack::{Stack, empty};
 use crate::state::{Mode, Place};
 use crate::steps::step;
-use ob_base::NoMemory;
+use crate::whole::{Whole, WholeSpec};
+use ob_base::{NoMemory, let_go};
 use ob_tree::{Expr, Spec, SyntaxFault, Token};
 use std::alloc::Global;
 
@@ -30,20 +30,45 @@ fn nothing(alloc: Global) -> Reader
     }
 }
 
+/// The expression of the last operand, where nothing waits behind it.
+fn finish_operand(alloc: Global, stack: Stack, whole: Whole) -> Result<Option<Expr>, NoMemory>
+    requires { load (After (expr_tree whole.expr.value) (held stack)) ≤ 256 }
+    ensures { IfOk result (λ o. option_map expr_tree o ≡ finish_of (After (expr_tree whole.expr.value) (held stack))) }
+{
+    let (stack, whole) = reduce(alloc, stack, whole, 0)?;
+    let Whole { expr, .. } = whole;
+    if stack.waiting.is_empty() {
+        Ok(Some(Box::into_inner(expr)))
+    } else {
+        Ok(None)
+    }
+}
+
 /// The whole expression, where nothing waits.
 pub fn finish(alloc: Global, reader: Reader) -> Result<Option<Expr>, NoMemory>
     requires { load (state_of reader) ≤ 256 }
     ensures { IfOk result (λ o. option_map expr_tree o ≡ finish_of (state_of reader)) }
 {
     let Reader { stack, mode } = reader;
-    let Mode::After(whole) = mode else {
-        return Ok(None);
-    };
-    let (stack, whole) = reduce(alloc, stack, whole, 0)?;
+    match mode {
+        Mode::After(whole) => finish_operand(alloc, stack, whole),
+        other => {
+            let_go(other);
+            Ok(None)
+        }
+    }
+}
+
+/// The specifier, where nothing waits behind it.
+fn finish_whole_spec(stack: Stack, spec: WholeSpec) -> Option<Spec>
+    ensures { option_map spec_tree result ≡ finish_spec_of (AfterSpec (spec_tree spec.spec) (held stack)) }
+{
+    let WholeSpec { spec, .. } = spec;
     if stack.waiting.is_empty() {
-        Ok(Some(whole.expr))
+        Some(spec)
     } else {
-        Ok(None)
+        let_go(spec);
+        None
     }
 }
 
@@ -52,22 +77,13 @@ pub fn finish_spec(reader: Reader) -> Option<Spec>
     ensures { option_map spec_tree result ≡ finish_spec_of (state_of reader) }
 {
     let Reader { stack, mode } = reader;
-    let Mode::AfterSpec(spec) = mode else {
-        return None;
-    };
-    if stack.waiting.is_empty() {
-        Some(spec.spec)
-    } else {
-        None
+    match mode {
+        Mode::AfterSpec(spec) => finish_whole_spec(stack, spec),
+        other => {
+            let_go(other);
+            None
+        }
     }
-}
-
-/// The fault at a token that only trees of longer paths go on with.
-fn too_deep(reader: Reader, at: u32) -> SyntaxFault
-    ensures { result ≡ syntax.TooDeep at }
-{
-    let _unread = reader;
-    SyntaxFault::TooDeep(at)
 }
 
 /// Reads as far as some tree goes on so, from `start` on.
@@ -101,7 +117,8 @@ pub fn read(
             Answer::Stuck => return Ok((nothing(alloc), place)),
         }
         if LIMIT - (depth as usize) < newest(&reader) {
-            return Err(too_deep(reader, at));
+            let_go(reader);
+            return Err(SyntaxFault::TooDeep(at));
         }
     }
     Ok((reader, tokens.len()))

@@ -9,14 +9,14 @@ use crate::nodes::{cast, conditional, join, size_of_expr, step_before, unary};
 use crate::stack::{Stack, pop, top_grip};
 use crate::state::Waiting;
 use crate::whole::Whole;
-use ob_base::NoMemory;
+use ob_base::{NoMemory, let_go};
 use std::alloc::Global;
 
 /// The node of a waiting one with its last operand; where a token ends it, the operand.
 fn close(alloc: Global, waiting: Waiting, operand: Whole) -> Result<Whole, NoMemory>
     requires low { inner_of (frame_of waiting) < 1000 }
-    requires small { height_of (expr_tree operand.expr) < 1000 }
-    ensures { IfOk result (λ w. expr_tree w.expr ≡ close_of (frame_of waiting) (expr_tree operand.expr)) }
+    requires small { height_of (expr_tree operand.expr.value) < 1000 }
+    ensures { IfOk result (λ w. expr_tree w.expr.value ≡ close_of (frame_of waiting) (expr_tree operand.expr.value)) }
 {
     match waiting {
         Waiting::Step(place, down) => step_before(alloc, place, down, operand),
@@ -25,15 +25,18 @@ fn close(alloc: Global, waiting: Waiting, operand: Whole) -> Result<Whole, NoMem
         Waiting::Cast(place, name) => cast(alloc, place, name, operand),
         Waiting::Join(place, operator, left) => join(alloc, place, operator, left, operand),
         Waiting::Else(place, test, then) => conditional(alloc, place, test, then, operand),
-        _ => Ok(operand),
+        other => {
+            let_go(other);
+            Ok(operand)
+        }
     }
 }
 
 /// Gives the newest node its last operand.
 #[tactic(auto, using(crate::proofs::Turns::top_small, crate::proofs::Turns::shallow))]
 fn close_top(alloc: Global, stack: Stack, operand: Whole) -> Result<(Stack, Whole), NoMemory>
-    requires { load (After (expr_tree operand.expr) (frames stack.waiting.items)) ≤ 256 }
-    ensures { IfOk result (λ r. (expr_tree r.1.expr, frames r.0.waiting.items) ≡ closed_top (expr_tree operand.expr) (frames stack.waiting.items)) }
+    requires { load (After (expr_tree operand.expr.value) (frames stack.waiting.items)) ≤ 256 }
+    ensures { IfOk result (λ r. (expr_tree r.1.expr.value, frames r.0.waiting.items) ≡ closed_top (expr_tree operand.expr.value) (frames stack.waiting.items)) }
 {
     let (stack, top) = pop(stack);
     match top {
@@ -53,10 +56,10 @@ pub fn reduce(
     operand: Whole,
     most: u32,
 ) -> Result<(Stack, Whole), NoMemory>
-    requires { load (After (expr_tree operand.expr) (frames stack.waiting.items)) ≤ 256 }
-    ensures reduced { IfOk result (λ r. (expr_tree r.1.expr, frames r.0.waiting.items) ≡ reduce_of most (expr_tree operand.expr) (frames stack.waiting.items)) }
-    ensures again { IfOk result (λ r. reduce_of 0 (expr_tree r.1.expr) (frames r.0.waiting.items) ≡ reduce_of 0 (expr_tree operand.expr) (frames stack.waiting.items)) }
-    ensures loaded { IfOk result (λ r. load (After (expr_tree r.1.expr) (frames r.0.waiting.items)) ≤ load (After (expr_tree operand.expr) (frames stack.waiting.items))) }
+    requires { load (After (expr_tree operand.expr.value) (frames stack.waiting.items)) ≤ 256 }
+    ensures reduced { IfOk result (λ r. (expr_tree r.1.expr.value, frames r.0.waiting.items) ≡ reduce_of most (expr_tree operand.expr.value) (frames stack.waiting.items)) }
+    ensures again { IfOk result (λ r. reduce_of 0 (expr_tree r.1.expr.value) (frames r.0.waiting.items) ≡ reduce_of 0 (expr_tree operand.expr.value) (frames stack.waiting.items)) }
+    ensures loaded { IfOk result (λ r. load (After (expr_tree r.1.expr.value) (frames r.0.waiting.items)) ≤ load (After (expr_tree operand.expr.value) (frames stack.waiting.items))) }
 {
     let mut stack = stack;
     let mut whole = operand;

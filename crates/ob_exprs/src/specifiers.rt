@@ -12,13 +12,13 @@ ghost use Rattle.ob_exprs.specs.View.{body_of};
 use crate::brackets::{after_dims, declare};
 use crate::integers::is_integer;
 use crate::lists::{no_dims, no_members, no_names};
-use crate::operands::{copy_of, specifier};
+use crate::operands::specifier;
 use crate::reader::{Answer, Reader};
 use crate::spec_nodes::{integer, structure, tag};
 use crate::stack::{Stack, pop, push};
 use crate::state::{Body, Head, Line, Mode, Place, Waiting};
 use crate::whole::WholeSpec;
-use ob_base::NoMemory;
+use ob_base::{NoMemory, let_go};
 use ob_tree::{Keyword, Sign, Spec, SpecNode, TokenKind};
 use std::alloc::Global;
 
@@ -124,7 +124,7 @@ fn under(
                 spec,
                 stars: 0,
             };
-            Ok(answered(after_dims(stack, head, no_dims(alloc), kind)?))
+            Ok(answered(after_dims(alloc, stack, head, no_dims(alloc), kind)?))
         }
         Some(Waiting::Struct(body)) => {
             let line = Line {
@@ -134,7 +134,10 @@ fn under(
             };
             Ok(answered(declare(alloc, stack, line, 0, kind, at)?))
         }
-        Some(_) => Ok(Answer::Stuck),
+        Some(other) => {
+            let_go((other, spec));
+            Ok(Answer::Stuck)
+        }
         None => Ok(Answer::Stays(Reader {
             stack,
             mode: Mode::AfterSpec(spec),
@@ -171,7 +174,7 @@ pub fn structured(
     ensures { IfOk result (λ o. Leads o (struct_to kind.now first (held stack))) }
 {
     let mode = match kind {
-        TokenKind::Name(text) => Mode::AfterSpec(tag(first, copy_of(alloc, text)?)),
+        TokenKind::Name(text) => Mode::AfterSpec(tag(first, text.copy(alloc)?)),
         TokenKind::Sign(Sign::OpenBrace) => Mode::Members(Body {
             first,
             tag: None,
@@ -194,6 +197,7 @@ fn close_struct(stack: Stack, body: Body) -> Option<Reader>
         members,
     } = body;
     if members.items.len() == 0 {
+        let_go((tag, members));
         return None;
     }
     Some(Reader {

@@ -8,7 +8,7 @@ ghost use Rattle.ob_exprs.specs.View.{mark};
 
 use crate::lists::no_arguments;
 use crate::nodes::{call, selected};
-use crate::operands::{begins_spec, copy_of, operand, operand_word, spec_word};
+use crate::operands::{begins_spec, operand, operand_word, spec_word};
 use crate::reader::Reader;
 use crate::stack::{Stack, push, top_hole};
 use crate::state::{Mode, Place, Waiting};
@@ -31,7 +31,7 @@ fn opened_word(
 {
     if !begins_spec(word) {
         let stack = push(stack, Waiting::Paren(paren))?;
-        return Ok(operand_word(stack, word, place));
+        return operand_word(alloc, stack, word, place);
     }
     if 13 < top_hole(&stack, least) {
         return Ok(None);
@@ -102,7 +102,7 @@ fn size_opened_word(
     }
     let stack = push(stack, Waiting::Size(size))?;
     let stack = push(stack, Waiting::Paren(paren))?;
-    Ok(operand_word(stack, word, place))
+    operand_word(alloc, stack, word, place)
 }
 
 /// The token behind `sizeof` and an opening parenthesis, of a type name or not.
@@ -142,7 +142,7 @@ pub fn called(
     match kind {
         TokenKind::Sign(Sign::CloseParen) => Ok(Some(Reader {
             stack,
-            mode: Mode::After(call(place_of_call, name, no_arguments(alloc))),
+            mode: Mode::After(call(alloc, place_of_call, name, no_arguments(alloc))?),
         })),
         _ => {
             let stack = push(
@@ -163,12 +163,12 @@ pub fn select(
     base: Whole,
     kind: &TokenKind,
 ) -> Result<Option<Reader>, NoMemory>
-    requires { height_of (expr_tree base.expr) < 1000 }
-    ensures { IfOk result (λ o. Leads o (select_of kind.now (mark place) arrow (expr_tree base.expr) (held stack))) }
+    requires { height_of (expr_tree base.expr.value) < 1000 }
+    ensures { IfOk result (λ o. Leads o (select_of kind.now (mark place) arrow (expr_tree base.expr.value) (held stack))) }
 {
     match kind {
         TokenKind::Name(text) => {
-            let text = copy_of(alloc, text)?;
+            let text = text.copy(alloc)?;
             let whole = selected(alloc, place, arrow, base, text)?;
             Ok(Some(Reader {
                 stack,

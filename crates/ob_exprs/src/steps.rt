@@ -9,7 +9,7 @@ ghost use Rattle.ob_exprs.specs.View.{mark};
 
 use crate::behind::{behind, closing_level};
 use crate::brackets::{after_dims, declare};
-use crate::operands::{copy_of, operand, specifier};
+use crate::operands::{operand, specifier};
 use crate::postfix::{call, index, select as select_behind, step as step_behind, string};
 use crate::reader::{Answer, Reader};
 use crate::reduce::reduce;
@@ -31,9 +31,9 @@ fn closing(
     at: u32,
     least: u32,
 ) -> Result<Answer, NoMemory>
-    requires small { load (After (expr_tree whole.expr) (held stack)) ≤ 256 }
+    requires small { load (After (expr_tree whole.expr.value) (held stack)) ≤ 256 }
     requires other { is_postfix_of sign ≡ Bool.false }
-    ensures { IfOk result (λ a. Answers (After (expr_tree whole.expr) (held stack)) a (after_sign_of least at sign (expr_tree whole.expr) (held stack))) }
+    ensures { IfOk result (λ a. Answers (After (expr_tree whole.expr.value) (held stack)) a (after_sign_of least at sign (expr_tree whole.expr.value) (held stack))) }
 {
     let (stack, whole) = reduce(alloc, stack, whole, closing_level(sign))?;
     behind(alloc, stack, whole, sign, at, least)
@@ -48,8 +48,8 @@ fn after_sign(
     at: u32,
     least: u32,
 ) -> Result<Answer, NoMemory>
-    requires { load (After (expr_tree whole.expr) (held stack)) ≤ 256 }
-    ensures { IfOk result (λ a. Answers (After (expr_tree whole.expr) (held stack)) a (after_sign_of least at sign (expr_tree whole.expr) (held stack))) }
+    requires { load (After (expr_tree whole.expr.value) (held stack)) ≤ 256 }
+    ensures { IfOk result (λ a. Answers (After (expr_tree whole.expr.value) (held stack)) a (after_sign_of least at sign (expr_tree whole.expr.value) (held stack))) }
 {
     match sign {
         Sign::OpenBracket => index(stack, whole, at),
@@ -71,15 +71,12 @@ fn after(
     at: u32,
     least: u32,
 ) -> Result<Answer, NoMemory>
-    requires { load (After (expr_tree whole.expr) (held stack)) ≤ 256 }
-    ensures { IfOk result (λ a. Answers (After (expr_tree whole.expr) (held stack)) a (after_of least at kind.now (expr_tree whole.expr) (held stack))) }
+    requires { load (After (expr_tree whole.expr.value) (held stack)) ≤ 256 }
+    ensures { IfOk result (λ a. Answers (After (expr_tree whole.expr.value) (held stack)) a (after_of least at kind.now (expr_tree whole.expr.value) (held stack))) }
 {
     match kind {
         TokenKind::Sign(sign) => after_sign(alloc, stack, whole, *sign, at, least),
-        TokenKind::Str(text) => {
-            let text = copy_of(alloc, text)?;
-            string(stack, whole, text)
-        }
+        TokenKind::Str(text) => string(alloc, stack, whole, text),
         _ => Ok(Answer::Stays(Reader {
             stack,
             mode: Mode::After(whole),
@@ -115,7 +112,7 @@ pub fn step(
         Mode::StructWord(first) => structured(alloc, stack, first, kind)?,
         Mode::Members(body) => members(alloc, stack, body, kind, place)?,
         Mode::Declare(line, stars) => declare(alloc, stack, line, stars, kind, place.first)?,
-        Mode::Dims(head, dims) => after_dims(stack, head, dims, kind)?,
+        Mode::Dims(head, dims) => after_dims(alloc, stack, head, dims, kind)?,
     };
     Ok(answered(next))
 }

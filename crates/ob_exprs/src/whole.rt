@@ -1,7 +1,7 @@
 ghost use Rattle.std.specs.Prelude.{◌≡◌, ◌≤◌};
 ghost use Rattle.ob_tree.specs.Levels.{level_of};
-ghost use Rattle.ob_tree.specs.Paths.{height as height_of, height_arguments, height_type, height_spec, height_members, height_objs, height_dims};
-ghost use Rattle.ob_tree.specs.ExpressionView.{expr_tree, spec_tree, type_tree, obj_trees, dim_trees};
+ghost use Rattle.ob_tree.specs.Paths.{height as height_of, height_arguments, height_type, height_spec, height_members, height_obj, height_objs, height_dims};
+ghost use Rattle.ob_tree.specs.ExpressionView.{expr_tree, spec_tree, type_tree, obj_tree, obj_trees, dim_trees};
 ghost use Rattle.ob_exprs.specs.Lists.{argument_trees, member_trees};
 ghost use Rattle.ob_exprs.specs.Loads.{count as count_of};
 
@@ -10,11 +10,11 @@ use ob_tree::{Dim, Expr, MemberDecl, ObjDecl, Spec, TypeName};
 /// A whole operand, with the number of nodes on its longest path and the number of its nonterminal.
 #[derive(Drop)]
 pub struct Whole {
-    pub expr: Expr,
+    pub expr: Box<Expr>,
     pub height: u32,
     pub level: u32,
-    ghost height_is: { height ≡ height_of (expr_tree expr) },
-    ghost level_is: { level ≡ level_of (expr_tree expr) },
+    ghost height_is: { height ≡ height_of (expr_tree expr.value) },
+    ghost level_is: { level ≡ level_of (expr_tree expr.value) },
 }
 
 /// A whole specifier, with the number of nodes on its longest path.
@@ -50,6 +50,14 @@ pub struct Dims {
     ghost count_is: { count ≡ count_of (dim_trees items.items) },
     ghost height_is: { height ≡ height_dims (dim_trees items.items) },
     ghost few: { count ≤ height },
+}
+
+/// A declarator, with the number of nodes on its longest path.
+#[derive(Drop)]
+pub struct WholeObj {
+    pub declarator: ObjDecl,
+    pub height: u32,
+    ghost height_is: { height ≡ height_obj (obj_tree declarator) },
 }
 
 /// The declarators of a line of members so far, with the number of nodes on their longest path.

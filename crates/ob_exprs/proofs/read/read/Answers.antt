@@ -1,15 +1,14 @@
-use Rattle.std.proofs.Common.{◌≡◌, Err, length, sym, subst, arith}
+use Rattle.std.proofs.Common.{◌≡◌, Err, length, arith}
 use Rattle.ob_exprs.specs.Reading.{state_of}
-use Rattle.ob_exprs.specs.Reads.{reading, Reads}
+use Rattle.ob_exprs.specs.Reads.{reading}
 use Rattle.ob_exprs.proofs.Loop.{goes-on, too-deep, at-end}
 use Rattle.ob_exprs.proofs.read.read.Goals as goal
 
 pub returns-then-depth-newest-clause-reads : goal.returns-then-depth-newest-clause-reads
 returns-then-depth-newest-clause-reads c =
     let left = reading c.args.tokens.now c.args.least c.args.depth c.args.from (state_of c.args.start) in
-    subst (λ x. Reads left (Err x)) (sym c.too_deep.ensures)
-    (too-deep c.args.tokens.now c.args.least c.args.depth left c.loop-place.place _ c.index-tokens-place.result c.loop-place.reader
-    (omega arith) c.index-tokens-place.is c.loop-place.invariant c.in_ok-next.field-0 c.in_ok-next.ensures c.in-Goes.next c.in-Goes.is (omega arith))
+    too-deep c.args.tokens.now c.args.least c.args.depth left c.loop-place.place _ c.index-tokens-place.result c.loop-place.reader
+    (omega arith) c.index-tokens-place.is c.loop-place.invariant c.in_ok-next.field-0 c.in_ok-next.ensures c.in-Goes.next c.in-Goes.is (omega arith)
 
 pub loop-place-preserved : goal.loop-place-preserved
 loop-place-preserved c =

@@ -7,8 +7,8 @@ use Rattle.ob_exprs.proofs.reduce.reduce.Given as goal
 
 abbrev pub invariant-closing : goal.invariant-closing
 invariant-closing l = record {
-  same : reduce_of l.most (expr_tree l.whole.expr) (frames l.stack.waiting.items) ≡ reduce_of l.most (expr_tree l.fn.operand.expr) (frames l.fn.stack.waiting.items);
-  load : load (After (expr_tree l.whole.expr) (frames l.stack.waiting.items)) ≤ load (After (expr_tree l.fn.operand.expr) (frames l.fn.stack.waiting.items));
+  same : reduce_of l.most (expr_tree l.whole.expr.value) (frames l.stack.waiting.items) ≡ reduce_of l.most (expr_tree l.fn.operand.expr.value) (frames l.fn.stack.waiting.items);
+  load : load (After (expr_tree l.whole.expr.value) (frames l.stack.waiting.items)) ≤ load (After (expr_tree l.fn.operand.expr.value) (frames l.fn.stack.waiting.items));
 }
 
 abbrev pub decreases-closing : goal.decreases-closing
