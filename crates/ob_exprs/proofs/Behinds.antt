@@ -20,6 +20,7 @@ use Rattle.ob_exprs.specs.Loads.{depth_of, load}
 use Rattle.ob_exprs.specs.Reading.{Leads, Answers}
 use Rattle.ob_exprs.specs.Behind.{is_postfix, closing_level, behind, is_name, is_string, in_call, in_paren, in_bracket, in_then, answered}
 use Rattle.ob_exprs.proofs.Heights.{depth-load}
+use Rattle.ob_tree.specs.Fronts.{greatest_path}
 
 pub after_reduced : (least p : ℕ) (s : Sign) (e : ExprTree) (fs : List Frame) → is_postfix s ≡ false
     → after_sign least p s e fs ≡ behind least p s (reduce (closing_level s) e fs)
@@ -67,13 +68,13 @@ pub sign_made : (e : Expr) (p : ℕ) → marked e.first p e.line ≡ at_sign (ma
 sign_made e p = ap (λ m. at_sign m p) (sym (mark-node e.node e.first e.at e.line))
 
 -- few nodes stand above what comes next
-pub shallow_2000 : (e : ExprTree) (fs : List Frame) → load (After e fs) ≤ 256 → depth_of fs ≤ 2000
+pub shallow_2000 : (e : ExprTree) (fs : List Frame) → load (After e fs) ≤ greatest_path → depth_of fs ≤ 2000
 shallow_2000 e fs l = omega (arith, depth-load fs)
 
 -- a call with one argument more is small
 pub call_small : (n : ℕ) (m : Mark) (name : List ℕ) (es : ExprTrees) (e : ExprTree) (fs gs : List Frame) → n ≡ max (height_arguments es) (height e)
-    → gs ≡ InCall m name es ∷ fs → load (After e gs) ≤ 256 → n < 1000
-call_small n m name es e fs gs h g l = let k : load (After e (InCall m name es ∷ fs)) ≤ 256 = rw g at l in omega arith
+    → gs ≡ InCall m name es ∷ fs → load (After e gs) ≤ greatest_path → n < 1000
+call_small n m name es e fs gs h g l = let k : load (After e (InCall m name es ∷ fs)) ≤ greatest_path = rw g at l in omega arith
 
 -- the answer behind what was closed is the answer behind what was read
 pub closed_answers : (least p n : ℕ) (s : Sign) (e e2 : ExprTree) (fs gs : List Frame) (r : Result Answer NoMemory) → is_postfix s ≡ false → n ≡ closing_level s → (e2, gs) ≡ reduce n e fs

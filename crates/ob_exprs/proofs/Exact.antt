@@ -9,7 +9,7 @@ use Rattle.ob_tree.specs.Spelling.{spell, spell_spec}
 use Rattle.ob_tree.specs.Valid.{ValidSpec, IsOf, IsOfSource}
 use Rattle.ob_tree.specs.Places.{here, place, place_spec, PlacedExpr, PlacedSpec}
 use Rattle.ob_tree.specs.Paths.{begun, begun_spec, height}
-use Rattle.ob_tree.specs.Fronts.{BeginsExpr, BeginsSpec, IsExpr, IsSpec, within, any}
+use Rattle.ob_tree.specs.Fronts.{greatest_path, BeginsExpr, BeginsSpec, IsExpr, IsSpec, within, any}
 use Rattle.ob_tree.proofs.Frames.{Frame, State, Operand, After, Specifier, AfterSpec, reduce}
 use Rattle.ob_tree.proofs.Machine.{step, step_if, run, whole_of, finish, finish_spec}
 use Rattle.ob_tree.proofs.Readings.{Reads}
@@ -83,7 +83,7 @@ module _ (lines : ℕ → ℕ) (least : ℕ) (small : least ≤ 2) (p : ℕ) whe
   machine-whole : (t : ExprTree) → IsOf least t → machine lines least p (spell t) ≡ Some (settled (place lines p t) [])
   machine-whole t v = through lines least t p [] v
 
-  goes-on : (depth : ℕ) (ks : List TokenKind) → BeginsExpr least (within depth) ks → (s : State) × (machine lines least p ks ≡ Some s) × (depth + load s ≤ 256)
+  goes-on : (depth : ℕ) (ks : List TokenKind) → BeginsExpr least (within depth) ks → (s : State) × (machine lines least p ks ≡ Some s) × (depth + load s ≤ greatest_path)
   goes-on depth ks b =
       let n = begun b.whole (length ks) in
       let same : take (length ks) (spell b.whole) ≡ ks = ap (take (length ks)) b.spelled ∙ take-append_seam ks b.rest in
@@ -105,7 +105,7 @@ module _ (lines : ℕ → ℕ) (least : ℕ) (small : least ≤ 2) (p : ℕ) whe
       let k : Stays least ks (Some s) = subst (Stays least ks) e (machine-stays ks a) in
       whole-begins (load s) ks (subst (Completes least (load s)) k.1 (state-whole least (load s) s k.0 (omega arith)))
 
-  begins : (depth : ℕ) (ks : List TokenKind) (s : State) → All IsOfSource ks → machine lines least p ks ≡ Some s → depth + load s ≤ 256 → BeginsExpr least (within depth) ks
+  begins : (depth : ℕ) (ks : List TokenKind) (s : State) → All IsOfSource ks → machine lines least p ks ≡ Some s → depth + load s ≤ greatest_path → BeginsExpr least (within depth) ks
   begins depth ks s a e l =
       let w = completes ks s a e in
       record { whole = w.whole; rest = w.rest; valid = w.valid; spelled = w.spelled; limit = omega (arith, w.limit) }
@@ -122,21 +122,21 @@ module _ (lines : ℕ → ℕ) (least : ℕ) (small : least ≤ 2) (p : ℕ) whe
       let f : settled (place lines p t) [] ≡ s = cc in
       subst (λ x. finish x ≡ Some (place lines p t)) f (finish-settled (place lines p t) (valid-place lines p t v.0))
 
-  finish-spells : (depth : ℕ) (ks : List TokenKind) (s : State) (t : ExprTree) → All IsOfSource ks → machine lines least p ks ≡ Some s → depth + load s ≤ 256
+  finish-spells : (depth : ℕ) (ks : List TokenKind) (s : State) (t : ExprTree) → All IsOfSource ks → machine lines least p ks ≡ Some s → depth + load s ≤ greatest_path
       → finish s ≡ Some t → IsExpr least (within depth) ks t × PlacedExpr lines p t
   finish-spells depth ks (After x fs) t a e l f =
       let k : Stays least ks (Some (After x fs)) = subst (Stays least ks) e (machine-stays ks a) in
       let r : Kept least x fs (reduce 0 x fs) = reduce-kept least 0 x fs k.0.0 k.0.1 in
-      let w : (IsOf least t × (spell t ≡ stack_spell fs ++ spell x)) × (depth + height t ≤ 256) = end (reduce 0 x fs) r f in
+      let w : (IsOf least t × (spell t ≡ stack_spell fs ++ spell x)) × (depth + height t ≤ greatest_path) = end (reduce 0 x fs) r f in
       let g : spell t ≡ ks = w.0.1 ∙ k.1 in
       let m : machine lines least p (spell t) ≡ Some (After x fs) = ap (machine lines least p) g ∙ e in
       let h : Some (place lines p t) ≡ Some t = sym (finish-whole t (After x fs) w.0.0 m) ∙ f in
       (record { valid = w.0.0; spelled = g; limit = w.1 }, cc)
     where
-      end : (r : ExprTree × List Frame) → Kept least x fs r → whole_of r ≡ Some t → (IsOf least t × (spell t ≡ stack_spell fs ++ spell x)) × (depth + height t ≤ 256)
+      end : (r : ExprTree × List Frame) → Kept least x fs r → whole_of r ≡ Some t → (IsOf least t × (spell t ≡ stack_spell fs ++ spell x)) × (depth + height t ≤ greatest_path)
       end (y, []) k e =
           let q : y ≡ t = cc in
-          subst (λ z. (IsOf least z × (spell z ≡ stack_spell fs ++ spell x)) × (depth + height z ≤ 256)) q ((k.of, k.spelled), omega (arith, k.load))
+          subst (λ z. (IsOf least z × (spell z ≡ stack_spell fs ++ spell x)) × (depth + height z ≤ greatest_path)) q ((k.of, k.spelled), omega (arith, k.load))
       end (y, f ∷ fs) k e = absurd cc
   finish-spells depth ks s t a e l f = absurd cc
 
@@ -168,7 +168,7 @@ module _ (lines : ℕ → ℕ) (p : ℕ) where
   spec-stays : (ks : List TokenKind) → All IsOfSource ks → Stays 17 ks (spec_machine lines p ks)
   spec-stays ks a = run-stays lines 17 spec-goal p ks [] (Some (Specifier [])) a ((tt, refl), refl)
 
-  spec-goes-on : (depth : ℕ) (ks : List TokenKind) → BeginsSpec (within depth) ks → (s : State) × (spec_machine lines p ks ≡ Some s) × (depth + load s ≤ 256)
+  spec-goes-on : (depth : ℕ) (ks : List TokenKind) → BeginsSpec (within depth) ks → (s : State) × (spec_machine lines p ks ≡ Some s) × (depth + load s ≤ greatest_path)
   spec-goes-on depth ks b =
       let n = begun_spec b.whole (length ks) in
       let same : take (length ks) (spell_spec b.whole) ≡ ks = ap (take (length ks)) b.spelled ∙ take-append_seam ks b.rest in
@@ -190,7 +190,7 @@ module _ (lines : ℕ → ℕ) (p : ℕ) where
       let k : Stays 17 ks (Some s) = subst (Stays 17 ks) e (spec-stays ks a) in
       whole-begins-spec (load s) ks (subst (Completes 17 (load s)) k.1 (state-whole 17 (load s) s k.0 (omega arith)))
 
-  begins-spec : (depth : ℕ) (ks : List TokenKind) (s : State) → All IsOfSource ks → spec_machine lines p ks ≡ Some s → depth + load s ≤ 256 → BeginsSpec (within depth) ks
+  begins-spec : (depth : ℕ) (ks : List TokenKind) (s : State) → All IsOfSource ks → spec_machine lines p ks ≡ Some s → depth + load s ≤ greatest_path → BeginsSpec (within depth) ks
   begins-spec depth ks s a e l =
       let w = completes-spec ks s a e in
       record { whole = w.whole; rest = w.rest; valid = w.valid; spelled = w.spelled; limit = omega (arith, w.limit) }
@@ -206,7 +206,7 @@ module _ (lines : ℕ → ℕ) (p : ℕ) where
       let f : AfterSpec (place_spec lines p t) [] ≡ s = cc in
       subst (λ x. finish_spec x ≡ Some (place_spec lines p t)) f refl
 
-  finish-spells-spec : (depth : ℕ) (ks : List TokenKind) (s : State) (t : SpecTree) → All IsOfSource ks → spec_machine lines p ks ≡ Some s → depth + load s ≤ 256
+  finish-spells-spec : (depth : ℕ) (ks : List TokenKind) (s : State) (t : SpecTree) → All IsOfSource ks → spec_machine lines p ks ≡ Some s → depth + load s ≤ greatest_path
       → finish_spec s ≡ Some t → IsSpec (within depth) ks t × PlacedSpec lines p t
   finish-spells-spec depth ks (AfterSpec x []) t a e l f =
       let k : Stays 17 ks (Some (AfterSpec x [])) = subst (Stays 17 ks) e (spec-stays ks a) in

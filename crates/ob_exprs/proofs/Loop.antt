@@ -13,7 +13,7 @@ use Rattle.ob_tree.specs.declared.expressions.Spec.{Spec}
 use Rattle.ob_tree.specs.ExpressionView.{expr_tree, spec_tree}
 use Rattle.ob_tree.specs.Places.{here}
 use Rattle.ob_tree.specs.Valid.{IsOfSource}
-use Rattle.ob_tree.specs.Fronts.{lines, kinds}
+use Rattle.ob_tree.specs.Fronts.{greatest_path, lines, kinds}
 use Rattle.ob_tree.specs.Answers.{Whole, NoTree, TooDeep}
 use Rattle.ob_tree.proofs.Frames.{Frame, State, Operand, Specifier}
 use Rattle.ob_tree.proofs.Machine.{step, finish, finish_spec}
@@ -93,7 +93,7 @@ reading-turn ts least depth i d s h = ap (λ l. machine.read (λ q k t. step lea
 -- what the loop keeps
 pub record Kept (ts : List Token) (least depth : ℕ) (left : machine.Reading State) (i : ℕ) (r : Reader) : Type 0 where
   pub reads : left ≡ reading ts least depth i (state_of r)
-  pub limit : depth + load (state_of r) ≤ 256
+  pub limit : depth + load (state_of r) ≤ greatest_path
   pub shallow : depth_of (held r.stack) ≤ 1000
 
 module _ (ts : List Token) (least depth : ℕ) (left : machine.Reading State) (i : ℕ) (d t : Token) (r : Reader) (b : i < length ts) (q : t ≡ get_or ts i d) (k : Kept ts least depth left i r)
@@ -113,22 +113,22 @@ module _ (ts : List Token) (least depth : ℕ) (left : machine.Reading State) (i
   next-load : (next : Reader) → a ≡ answer.Goes next → load (state_of next) ≤ max (load (state_of r)) (newest (state_of next))
   next-load next e = subst (Light (load (state_of r))) (answer-is (answer.Goes next) e) (step-light least (here (lines ts) i) (get_or ts i d).kind (state_of r))
 
-  pub goes-on : (next : Reader) → a ≡ answer.Goes next → newest (state_of next) ≤ 256 - depth → depth ≤ 256 → Kept ts least depth left (i + 1) next
+  pub goes-on : (next : Reader) → a ≡ answer.Goes next → newest (state_of next) ≤ greatest_path - depth → depth ≤ greatest_path → Kept ts least depth left (i + 1) next
   goes-on next e n h =
-      let l : depth + load (state_of next) ≤ 256 = omega (arith, next-load next e, k.limit) in
+      let l : depth + load (state_of next) ≤ greatest_path = omega (arith, next-load next e, k.limit) in
       record {
-        reads = turned (Some (state_of next)) (answer-is (answer.Goes next) e) ∙ ap (λ c. cond c (reading ts least depth (i + 1) (state_of next)) (machine.Deep i)) (le-true (depth + load (state_of next)) 256 l);
+        reads = turned (Some (state_of next)) (answer-is (answer.Goes next) e) ∙ ap (λ c. cond c (reading ts least depth (i + 1) (state_of next)) (machine.Deep i)) (le-true (depth + load (state_of next)) greatest_path l);
         limit = l;
         shallow = shallow-state next l;
       }
     where
-      shallow-state : (next : Reader) → depth + load (state_of next) ≤ 256 → depth_of (held next.stack) ≤ 1000
+      shallow-state : (next : Reader) → depth + load (state_of next) ≤ greatest_path → depth_of (held next.stack) ≤ 1000
       shallow-state next l = omega (arith, depth-load (held next.stack), stack-load next)
 
-  pub too-deep : (next : Reader) → a ≡ answer.Goes next → 256 - depth < newest (state_of next) → left ≡ machine.Deep i
+  pub too-deep : (next : Reader) → a ≡ answer.Goes next → greatest_path - depth < newest (state_of next) → left ≡ machine.Deep i
   too-deep next e n =
-      let l : 256 < depth + load (state_of next) = omega arith in
-      turned (Some (state_of next)) (answer-is (answer.Goes next) e) ∙ ap (λ c. cond c (reading ts least depth (i + 1) (state_of next)) (machine.Deep i)) (le-false (depth + load (state_of next)) 256 l)
+      let l : greatest_path < depth + load (state_of next) = omega arith in
+      turned (Some (state_of next)) (answer-is (answer.Goes next) e) ∙ ap (λ c. cond c (reading ts least depth (i + 1) (state_of next)) (machine.Deep i)) (le-false (depth + load (state_of next)) greatest_path l)
 
   pub stays : (rest : Reader) → a ≡ answer.Stays rest → Stands left i rest
   stays rest e =
@@ -150,7 +150,7 @@ pub at-end : (ts : List Token) (least depth : ℕ) (left : machine.Reading State
 at-end ts least depth left i r e k = at-length ts least depth left r (subst (λ j. Kept ts least depth left j r) e k)
 
 -- the verdict on expressions
-module _ (ts : List Token) (from depth least : ℕ) (small : least ≤ 2) (all : All (λ t. IsOfSource t.kind) ts) (f : from ≤ length ts) (b : depth ≤ 256) where
+module _ (ts : List Token) (from depth least : ℕ) (small : least ≤ 2) (all : All (λ t. IsOfSource t.kind) ts) (f : from ≤ length ts) (b : depth ≤ greatest_path) where
   expr-verdict : IsExprVerdict ts from depth least (machine.verdict finish (reading ts least depth from (Operand [])))
   expr-verdict = machine.right _ _ _ _ _ _ from depth (run_expr (lines ts) least from) (exact-expr (lines ts) least small from depth) ts all (drop from ts) from (Operand []) refl (omega arith) f (start-run ts from least) (omega arith) (λ j h g. absurd (omega arith))
 
@@ -170,7 +170,7 @@ module _ (ts : List Token) (from depth least : ℕ) (small : least ≤ 2) (all :
   expr-deep i e = subst (IsExprVerdict ts from depth least) (ap (machine.verdict finish) e) expr-verdict
 
 -- and on specifiers
-module _ (ts : List Token) (from depth : ℕ) (all : All (λ t. IsOfSource t.kind) ts) (f : from ≤ length ts) (b : depth ≤ 256) where
+module _ (ts : List Token) (from depth : ℕ) (all : All (λ t. IsOfSource t.kind) ts) (f : from ≤ length ts) (b : depth ≤ greatest_path) where
   spec-verdict : IsSpecVerdict ts from depth (machine.verdict finish_spec (reading ts 17 depth from (Specifier [])))
   spec-verdict = machine.right _ _ _ _ _ _ from depth (spec_machine (lines ts) from) (exact-spec (lines ts) from depth) ts all (drop from ts) from (Specifier []) refl (omega arith) f (start-spec ts from) (omega arith) (λ j h g. absurd (omega arith))
 
@@ -195,7 +195,7 @@ floor-low level.Assign = omega arith
 floor-low level.Cond = omega arith
 
 -- what the parser of expressions answers
-module _ (ts : List Token) (from depth : ℕ) (l : Level) (n : ℕ) (fs : List Frame) (e1 : n ≡ floor l) (e2 : fs ≡ []) (all : All (λ t. IsOfSource t.kind) ts) (f : from ≤ length ts) (b : depth ≤ 256) where
+module _ (ts : List Token) (from depth : ℕ) (l : Level) (n : ℕ) (fs : List Frame) (e1 : n ≡ floor l) (e2 : fs ≡ []) (all : All (λ t. IsOfSource t.kind) ts) (f : from ≤ length ts) (b : depth ≤ greatest_path) where
   same : reading ts n depth from (Operand fs) ≡ reading ts (floor l) depth from (Operand [])
   same = ap (λ m. reading ts m depth from (Operand fs)) e1 ∙ ap (λ gs. reading ts (floor l) depth from (Operand gs)) e2
 
@@ -213,7 +213,7 @@ module _ (ts : List Token) (from depth : ℕ) (l : Level) (n : ℕ) (fs : List F
   parsed-fault fault.NoMemory h = tt
 
 -- what the parser of specifiers answers
-module _ (ts : List Token) (from depth : ℕ) (fs : List Frame) (e : fs ≡ []) (all : All (λ t. IsOfSource t.kind) ts) (f : from ≤ length ts) (b : depth ≤ 256) where
+module _ (ts : List Token) (from depth : ℕ) (fs : List Frame) (e : fs ≡ []) (all : All (λ t. IsOfSource t.kind) ts) (f : from ≤ length ts) (b : depth ≤ greatest_path) where
   same-spec : reading ts 17 depth from (Specifier fs) ≡ reading ts 17 depth from (Specifier [])
   same-spec = ap (λ gs. reading ts 17 depth from (Specifier gs)) e
 

@@ -9,6 +9,7 @@ use Rattle.ob_exprs.specs.Loads.{depth_of, inner, load}
 use Rattle.ob_exprs.specs.View.{closed_top}
 use Rattle.ob_exprs.proofs.Heights.{depth-load}
 use Rattle.ob_exprs.proofs.Kept.{close-load}
+use Rattle.ob_tree.specs.Fronts.{greatest_path}
 
 -- reducing by less goes on from reducing by more
 reduce-again : (n : ℕ) (e : ExprTree) (fs : List Frame) → reduce 0 (reduce n e fs).0 (reduce n e fs).1 ≡ reduce 0 e fs
@@ -38,10 +39,10 @@ turned n e [] h = refl
 turned n e (f ∷ fs) h = rw (lt-no n (grip f) h) refl
 
 -- the newest node is small, and few nodes stand above what comes next
-pub top_small : (e : ExprTree) (f : Frame) (fs gs : List Frame) → gs ≡ f ∷ fs → load (After e gs) ≤ 256 → (inner f < 1000) × (height e < 1000)
-top_small e f fs gs g l = let h : load (After e (f ∷ fs)) ≤ 256 = rw g at l in (omega arith, omega arith)
+pub top_small : (e : ExprTree) (f : Frame) (fs gs : List Frame) → gs ≡ f ∷ fs → load (After e gs) ≤ greatest_path → (inner f < 1000) × (height e < 1000)
+top_small e f fs gs g l = let h : load (After e (f ∷ fs)) ≤ greatest_path = rw g at l in (omega arith, omega arith)
 
-pub shallow : (e : ExprTree) (fs : List Frame) → load (After e fs) ≤ 256 → depth_of fs ≤ 1000
+pub shallow : (e : ExprTree) (fs : List Frame) → load (After e fs) ≤ greatest_path → depth_of fs ≤ 1000
 shallow e fs l = omega (arith, depth-load fs)
 
 -- what is reduced further is what is reduced at once

@@ -4,7 +4,7 @@ use Rattle.ob_tree.specs.declared.tokens.Token.{Token}
 use Rattle.ob_tree.specs.declared.faults.SyntaxFault.{SyntaxFault}
 use Rattle.ob_tree.specs.declared.faults.SyntaxFault.TheVariants as fault
 use Rattle.ob_tree.specs.Places.{here}
-use Rattle.ob_tree.specs.Fronts.{lines}
+use Rattle.ob_tree.specs.Fronts.{greatest_path, lines}
 use Rattle.ob_tree.proofs.Frames.{State}
 use Rattle.ob_tree.proofs.Machine.{step, finish, finish_spec}
 use Rattle.ob_tree.proofs.Readings as machine
@@ -22,7 +22,7 @@ pub record Stands (left : machine.Reading State) (i : ℕ) (r : Reader) : Type 0
   pub reached : left ≡ machine.Reached i state
   pub finishes : finish (state_of r) ≡ finish state
   pub finishes_spec : finish_spec (state_of r) ≡ finish_spec state
-  pub small : load (state_of r) ≤ 256
+  pub small : load (state_of r) ≤ greatest_path
 
 abbrev pub Reads : (left : machine.Reading State) → Result (Reader × ℕ) SyntaxFault → Type 0
 Reads left (Ok r) = Stands left r.1 r.0

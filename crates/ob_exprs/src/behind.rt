@@ -1,4 +1,5 @@
 ghost use Rattle.std.specs.Prelude.{◌≡◌, ◌≤◌, ◌<◌, IfOk, nat_le, ◌&&◌};
+ghost use Rattle.ob_tree.specs.Fronts.{greatest_path};
 ghost use Rattle.ob_tree.specs.Levels.{infix_level, left_level as left_level_of, level_of};
 ghost use Rattle.ob_tree.specs.ExpressionView.{expr_tree};
 ghost use Rattle.ob_tree.proofs.Frames.{After, top_hole as top_hole_of};
@@ -8,14 +9,15 @@ ghost use Rattle.ob_exprs.specs.Loads.{load};
 ghost use Rattle.ob_exprs.specs.Reading.{Answers, held};
 ghost use Rattle.ob_exprs.specs.View.{infix_of};
 
+use crate::level::{ASSIGN, COND, OR};
 use crate::lists::{add_argument, add_dim};
+use crate::measured::Whole;
 use crate::nodes::{call, index, paren};
 use crate::operators::{binary_level, is_assign, left_level, level_of_operator};
 use crate::postfix::sign_place;
 use crate::reader::{Answer, Reader};
 use crate::stack::{Stack, pop, push, top_hole};
 use crate::state::{Mode, Operator, Waiting};
-use crate::whole::Whole;
 use ob_base::NoMemory;
 use ob_tree::Sign;
 use std::alloc::Global;
@@ -40,10 +42,10 @@ pub fn closing_level(sign: Sign) -> u32
     ensures { result ≡ closing_level_of sign }
 {
     match sign {
-        Sign::Question => 2,
+        Sign::Question => COND,
         _ => {
             if is_assign(sign) {
-                1
+                ASSIGN
             } else {
                 binary_level(sign)
             }
@@ -67,7 +69,7 @@ fn join(
     at: u32,
     least: u32,
 ) -> Result<Answer, NoMemory>
-    requires { load (After (expr_tree whole.expr.value) (held stack)) ≤ 256 }
+    requires { load (After (expr_tree whole.expr.value) (held stack)) ≤ greatest_path }
     ensures { IfOk result (λ a. Answers (After (expr_tree whole.expr.value) (held stack)) a (join_to least (infix_of operator) at (expr_tree whole.expr.value, held stack))) }
 {
     if !takes(&stack, &whole, operator, least) {
@@ -87,10 +89,10 @@ fn join(
 /// A `?`.
 #[tactic(auto, using(crate::proofs::Behinds::shallow_2000))]
 fn question(stack: Stack, whole: Whole, at: u32, least: u32) -> Result<Answer, NoMemory>
-    requires { load (After (expr_tree whole.expr.value) (held stack)) ≤ 256 }
+    requires { load (After (expr_tree whole.expr.value) (held stack)) ≤ greatest_path }
     ensures { IfOk result (λ a. Answers (After (expr_tree whole.expr.value) (held stack)) a (then_to least at (expr_tree whole.expr.value, held stack))) }
 {
-    if whole.level < 3 || 2 < top_hole(&stack, least) {
+    if whole.level < OR || COND < top_hole(&stack, least) {
         return Ok(Answer::Stays(Reader {
             stack,
             mode: Mode::After(whole),
@@ -114,7 +116,7 @@ fn in_call(stack: &Stack) -> bool
 /// A comma: it ends an argument, or is an operator.
 #[tactic(auto, using(crate::proofs::Turns::shallow, crate::proofs::Behinds::comma_joins))]
 fn comma(stack: Stack, whole: Whole, at: u32, least: u32) -> Result<Answer, NoMemory>
-    requires { load (After (expr_tree whole.expr.value) (held stack)) ≤ 256 }
+    requires { load (After (expr_tree whole.expr.value) (held stack)) ≤ greatest_path }
     ensures { IfOk result (λ a. Answers (After (expr_tree whole.expr.value) (held stack)) a (comma_to least at (expr_tree whole.expr.value) (held stack))) }
 {
     if !in_call(&stack) {
@@ -147,7 +149,7 @@ fn in_paren(stack: &Stack) -> bool
 /// A closing parenthesis: of an expression, or of a call's arguments.
 #[tactic(auto, using(crate::proofs::Turns::shallow, crate::proofs::Behinds::call_small, crate::proofs::Behinds::no_paren))]
 fn close_paren(alloc: Global, stack: Stack, whole: Whole) -> Result<Answer, NoMemory>
-    requires { load (After (expr_tree whole.expr.value) (held stack)) ≤ 256 }
+    requires { load (After (expr_tree whole.expr.value) (held stack)) ≤ greatest_path }
     ensures { IfOk result (λ a. Answers (After (expr_tree whole.expr.value) (held stack)) a (close_paren_of (expr_tree whole.expr.value) (held stack))) }
 {
     if !in_paren(&stack) {
@@ -184,7 +186,7 @@ fn in_bracket(stack: &Stack) -> bool
 /// A closing bracket: of an index, or of an array length.
 #[tactic(auto, using(crate::proofs::Turns::shallow, crate::proofs::Behinds::no_bracket))]
 fn close_bracket(alloc: Global, stack: Stack, whole: Whole) -> Result<Answer, NoMemory>
-    requires { load (After (expr_tree whole.expr.value) (held stack)) ≤ 256 }
+    requires { load (After (expr_tree whole.expr.value) (held stack)) ≤ greatest_path }
     ensures { IfOk result (λ a. Answers (After (expr_tree whole.expr.value) (held stack)) a (close_bracket_of (expr_tree whole.expr.value) (held stack))) }
 {
     if !in_bracket(&stack) {
@@ -215,7 +217,7 @@ fn in_then(stack: &Stack) -> bool
 /// A `:`.
 #[tactic(auto, using(crate::proofs::Turns::shallow, crate::proofs::Behinds::no_colon))]
 fn colon(stack: Stack, whole: Whole) -> Result<Answer, NoMemory>
-    requires { load (After (expr_tree whole.expr.value) (held stack)) ≤ 256 }
+    requires { load (After (expr_tree whole.expr.value) (held stack)) ≤ greatest_path }
     ensures { IfOk result (λ a. Answers (After (expr_tree whole.expr.value) (held stack)) a (colon_to (expr_tree whole.expr.value) (held stack))) }
 {
     if !in_then(&stack) {
@@ -239,7 +241,7 @@ fn colon(stack: Stack, whole: Whole) -> Result<Answer, NoMemory>
 
 /// An operator, or a sign that is none.
 fn operator(stack: Stack, whole: Whole, sign: Sign, at: u32, least: u32) -> Result<Answer, NoMemory>
-    requires { load (After (expr_tree whole.expr.value) (held stack)) ≤ 256 }
+    requires { load (After (expr_tree whole.expr.value) (held stack)) ≤ greatest_path }
     ensures { IfOk result (λ a. Answers (After (expr_tree whole.expr.value) (held stack)) a (operator_behind least at sign (expr_tree whole.expr.value, held stack))) }
 {
     if is_assign(sign) {
@@ -263,7 +265,7 @@ pub fn behind(
     at: u32,
     least: u32,
 ) -> Result<Answer, NoMemory>
-    requires { load (After (expr_tree whole.expr.value) (held stack)) ≤ 256 }
+    requires { load (After (expr_tree whole.expr.value) (held stack)) ≤ greatest_path }
     ensures { IfOk result (λ a. Answers (After (expr_tree whole.expr.value) (held stack)) a (behind_of least at sign (expr_tree whole.expr.value, held stack))) }
 {
     match sign {

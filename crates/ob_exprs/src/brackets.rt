@@ -1,4 +1,5 @@
 ghost use Rattle.std.specs.Prelude.{◌≡◌, ◌≤◌, ◌<◌, ◌∷◌, IfOk, Some};
+ghost use Rattle.ob_tree.specs.Fronts.{greatest_path};
 ghost use Rattle.ob_tree.specs.Paths.{height_dims};
 ghost use Rattle.ob_tree.specs.ExpressionView.{dim_trees};
 ghost use Rattle.ob_tree.proofs.Frames.{Declare, Dims as dims_state, InLength, Operand};
@@ -8,11 +9,11 @@ ghost use Rattle.ob_exprs.specs.Reading.{Leads, held};
 ghost use Rattle.ob_exprs.specs.View.{body_of, head_of, line_of};
 
 use crate::lists::{add_members, add_name, copied_with, declarator, no_dims, type_name};
+use crate::measured::Dims;
 use crate::nodes::size_of_type;
 use crate::reader::Reader;
 use crate::stack::{Stack, push};
 use crate::state::{Body, Head, Line, Mode, Waiting};
-use crate::whole::Dims;
 use ob_base::{NoMemory, Text, let_go};
 use ob_tree::{Sign, TokenKind};
 use std::alloc::Global;
@@ -20,7 +21,7 @@ use std::alloc::Global;
 /// A star behind a row of brackets.
 #[tactic(auto, using(crate::proofs::Rows::star_more, crate::proofs::Rows::star_none))]
 fn more_stars(stack: Stack, head: Head, dims: Dims) -> Option<Reader>
-    requires { load (dims_state (head_of head) (dim_trees dims.items.items) (held stack)) ≤ 256 }
+    requires { load (dims_state (head_of head) (dim_trees dims.items.items) (held stack)) ≤ greatest_path }
     ensures { Leads result (more_stars_of (head_of head) (dim_trees dims.items.items) (held stack)) }
 {
     if 0 < dims.count {
@@ -59,7 +60,7 @@ fn close_type(
     head: Head,
     dims: Dims,
 ) -> Result<Option<Reader>, NoMemory>
-    requires small { load (dims_state (head_of head) (dim_trees dims.items.items) (held stack)) ≤ 256 }
+    requires small { load (dims_state (head_of head) (dim_trees dims.items.items) (held stack)) ≤ greatest_path }
     requires shallow { depth_of (held stack) ≤ 1000 }
     ensures { IfOk result (λ o. Leads o (close_type_of (head_of head) (dim_trees dims.items.items) (held stack))) }
 {
@@ -92,13 +93,7 @@ fn close_type(
 }
 
 /// The line with one name more.
-fn line_with_name(
-    line: Line,
-    stars: u32,
-    name: Text,
-    at: u32,
-    dims: Dims,
-) -> Result<Line, NoMemory>
+fn line_with_name(line: Line, stars: u32, name: Text, at: u32, dims: Dims) -> Result<Line, NoMemory>
     requires low { height_dims (dim_trees dims.items.items) < 1000 }
     requires few { stars < 1000 }
     ensures { IfOk result (λ l. line_of l ≡ named_of (line_of line) stars name at (dim_trees dims.items.items)) }
@@ -128,7 +123,7 @@ fn body_with_line(line: Line) -> Result<Body, NoMemory>
 
 /// A comma behind a member.
 fn next_name(stack: Stack, head: Head, dims: Dims) -> Result<Option<Reader>, NoMemory>
-    requires { load (dims_state (head_of head) (dim_trees dims.items.items) (held stack)) ≤ 256 }
+    requires { load (dims_state (head_of head) (dim_trees dims.items.items) (held stack)) ≤ greatest_path }
     ensures { IfOk result (λ o. Leads o (next_name_of (head_of head) (dim_trees dims.items.items) (held stack))) }
 {
     match head {
@@ -153,7 +148,7 @@ fn next_name(stack: Stack, head: Head, dims: Dims) -> Result<Option<Reader>, NoM
 
 /// A semicolon behind a line of members.
 fn end_line(stack: Stack, head: Head, dims: Dims) -> Result<Option<Reader>, NoMemory>
-    requires { load (dims_state (head_of head) (dim_trees dims.items.items) (held stack)) ≤ 256 }
+    requires { load (dims_state (head_of head) (dim_trees dims.items.items) (held stack)) ≤ greatest_path }
     ensures { IfOk result (λ o. Leads o (end_line_of (head_of head) (dim_trees dims.items.items) (held stack))) }
 {
     match head {
@@ -179,7 +174,7 @@ fn end_line(stack: Stack, head: Head, dims: Dims) -> Result<Option<Reader>, NoMe
 
 /// An opening bracket behind a row of brackets.
 fn open_bracket(stack: Stack, head: Head, dims: Dims) -> Result<Option<Reader>, NoMemory>
-    requires small { load (dims_state (head_of head) (dim_trees dims.items.items) (held stack)) ≤ 256 }
+    requires small { load (dims_state (head_of head) (dim_trees dims.items.items) (held stack)) ≤ greatest_path }
     requires shallow { depth_of (held stack) ≤ 1000 }
     ensures { IfOk result (λ o. Leads o (Some (Operand (InLength (head_of head) (dim_trees dims.items.items) ∷ held stack)))) }
 {
@@ -198,7 +193,7 @@ pub fn after_dims(
     dims: Dims,
     kind: &TokenKind,
 ) -> Result<Option<Reader>, NoMemory>
-    requires small { load (dims_state (head_of head) (dim_trees dims.items.items) (held stack)) ≤ 256 }
+    requires small { load (dims_state (head_of head) (dim_trees dims.items.items) (held stack)) ≤ greatest_path }
     requires shallow { depth_of (held stack) ≤ 1000 }
     ensures { IfOk result (λ o. Leads o (after_dims_of kind.now (head_of head) (dim_trees dims.items.items) (held stack))) }
 {
@@ -224,7 +219,7 @@ pub fn declare(
     kind: &TokenKind,
     at: u32,
 ) -> Result<Option<Reader>, NoMemory>
-    requires { load (Declare (line_of line) stars (held stack)) ≤ 256 }
+    requires { load (Declare (line_of line) stars (held stack)) ≤ greatest_path }
     ensures { IfOk result (λ o. Leads o (declare_of at kind.now (line_of line) stars (held stack))) }
 {
     match kind {

@@ -6,7 +6,9 @@ ghost use Rattle.ob_tree.proofs.Frames.{add_argument as add_argument_of, add_dim
 ghost use Rattle.ob_exprs.specs.Lists.{argument_trees, member_trees};
 ghost use Rattle.ob_exprs.specs.Loads.{count as count_of};
 
-use crate::whole::{Arguments, Dims, Members, Names, Whole, WholeObj, WholeSpec, WholeType};
+use crate::measured::{
+    Arguments, Dims, MeasuredDeclarator, MeasuredSpec, MeasuredType, Members, Names, Whole,
+};
 use ob_base::{NoMemory, Text, push_with};
 use ob_tree::{Dim, Expr, MemberDecl, ObjDecl, Spec, TypeName};
 use std::alloc::Global;
@@ -94,7 +96,7 @@ pub fn no_names(alloc: Global) -> Names
 
 /// A declarator without an initialiser.
 #[tactic(auto, using(crate::proofs::Views::obj_made))]
-pub fn declarator(stars: u32, name: Text, at: u32, dims: Dims) -> WholeObj
+pub fn declarator(stars: u32, name: Text, at: u32, dims: Dims) -> MeasuredDeclarator
     requires low { height_dims (dim_trees dims.items.items) < 1000 }
     requires few { stars < 1000 }
     ensures { obj_tree result.declarator ≡ ObjTree.Bare stars name at (dim_trees dims.items.items) }
@@ -108,14 +110,14 @@ pub fn declarator(stars: u32, name: Text, at: u32, dims: Dims) -> WholeObj
         dims,
         init: None,
     };
-    WholeObj { declarator, height }
+    MeasuredDeclarator { declarator, height }
 }
 
 /// The names with one more, and what the caller goes on with.
 #[tactic(auto, using(crate::proofs::Views::objs_pushed, crate::proofs::Views::objs_pushed_height))]
 pub fn add_name<K: Drop>(
     names: Names,
-    name: WholeObj,
+    name: MeasuredDeclarator,
     kept: K,
 ) -> Result<(Names, K), NoMemory>
     ensures added { IfOk result (λ r. obj_trees r.0.items.items ≡ add_obj_of (obj_trees names.items.items) (obj_tree name.declarator)) }
@@ -123,7 +125,7 @@ pub fn add_name<K: Drop>(
 {
     let height = names.height.max(name.height);
     let Names { items, .. } = names;
-    let WholeObj { declarator, .. } = name;
+    let MeasuredDeclarator { declarator, .. } = name;
     let mut items = items;
     let kept = push_with(&mut items, declarator, kept)?;
     Ok((Names { items, height }, kept))
@@ -142,7 +144,7 @@ pub fn no_members(alloc: Global) -> Members
 #[tactic(auto, using(crate::proofs::Views::members_pushed, crate::proofs::Views::members_pushed_height))]
 pub fn add_members<K: Drop>(
     members: Members,
-    spec: WholeSpec,
+    spec: MeasuredSpec,
     names: Names,
     kept: K,
 ) -> Result<(Members, K), NoMemory>
@@ -151,7 +153,7 @@ pub fn add_members<K: Drop>(
 {
     let height = members.height.max(spec.height.max(names.height));
     let Members { items, .. } = members;
-    let WholeSpec { spec, .. } = spec;
+    let MeasuredSpec { spec, .. } = spec;
     let Names { items: names, .. } = names;
     let mut items = items;
     let kept = push_with(&mut items, MemberDecl { spec, names }, kept)?;
@@ -166,15 +168,15 @@ fn named(spec: Spec, stars: u32, dims: Vec<Dim>) -> TypeName
 }
 
 /// A type name.
-pub fn type_name(spec: WholeSpec, stars: u32, dims: Dims) -> WholeType
+pub fn type_name(spec: MeasuredSpec, stars: u32, dims: Dims) -> MeasuredType
     requires low { height_dims (dim_trees dims.items.items) < 1000 }
     requires few { stars < 1000 }
     ensures { type_tree result.name ≡ TypeTree.TypeName (spec_tree spec.spec) stars (dim_trees dims.items.items) }
 {
     let height = spec.height.max(stars + dims.height);
-    let WholeSpec { spec, .. } = spec;
+    let MeasuredSpec { spec, .. } = spec;
     let Dims { items, .. } = dims;
-    WholeType {
+    MeasuredType {
         name: named(spec, stars, items),
         height,
     }

@@ -7,9 +7,10 @@ ghost use Rattle.ob_tree.proofs.Machine.{selected as selected_of};
 ghost use Rattle.ob_exprs.specs.Lists.{argument_trees};
 ghost use Rattle.ob_exprs.specs.View.{mark, infix_of};
 
+use crate::level::{CAST, COND, POSTFIX, PRIMARY, UNARY};
+use crate::measured::{Arguments, MeasuredType, Whole};
 use crate::operators::level_of_operator;
 use crate::state::{Operator, Place};
-use crate::whole::{Arguments, Whole, WholeType};
 use ob_base::{NoMemory, Text, boxed, listed};
 use ob_tree::{Expr, ExprNode, Sign};
 use ob_words::IntType;
@@ -45,32 +46,37 @@ fn whole(alloc: Global, expr: Expr, height: u32, level: u32) -> Result<Whole, No
 pub fn name(alloc: Global, place: Place, name: Text) -> Result<Whole, NoMemory>
     ensures { IfOk result (λ w. expr_tree w.expr.value ≡ ExprTree.Name (mark place) name) }
 {
-    whole(alloc, placed(place, ExprNode::Name(name)), 1, 16)
+    whole(alloc, placed(place, ExprNode::Name(name)), 1, PRIMARY)
 }
 
 pub fn number(alloc: Global, place: Place, value: i128, ty: IntType) -> Result<Whole, NoMemory>
     ensures { IfOk result (λ w. expr_tree w.expr.value ≡ ExprTree.Number (mark place) value ty) }
 {
-    whole(alloc, placed(place, ExprNode::Number { value, ty }), 1, 16)
+    whole(
+        alloc,
+        placed(place, ExprNode::Number { value, ty }),
+        1,
+        PRIMARY,
+    )
 }
 
 pub fn null(alloc: Global, place: Place) -> Result<Whole, NoMemory>
     ensures { IfOk result (λ w. expr_tree w.expr.value ≡ ExprTree.Null (mark place)) }
 {
-    whole(alloc, placed(place, ExprNode::Null), 1, 16)
+    whole(alloc, placed(place, ExprNode::Null), 1, PRIMARY)
 }
 
 pub fn eof(alloc: Global, place: Place) -> Result<Whole, NoMemory>
     ensures { IfOk result (λ w. expr_tree w.expr.value ≡ ExprTree.Eof (mark place)) }
 {
-    whole(alloc, placed(place, ExprNode::Eof), 1, 16)
+    whole(alloc, placed(place, ExprNode::Eof), 1, PRIMARY)
 }
 
 /// String literals side by side.
 pub fn strings(alloc: Global, place: Place, texts: Vec<Text>) -> Result<Whole, NoMemory>
     ensures { IfOk result (λ w. expr_tree w.expr.value ≡ ExprTree.Str (mark place) texts.items) }
 {
-    whole(alloc, placed(place, ExprNode::Str(texts)), 1, 16)
+    whole(alloc, placed(place, ExprNode::Str(texts)), 1, PRIMARY)
 }
 
 pub fn string(alloc: Global, place: Place, text: Text) -> Result<Whole, NoMemory>
@@ -89,7 +95,7 @@ pub fn paren(alloc: Global, place: Place, inner: Whole) -> Result<Whole, NoMemor
         alloc,
         placed(place, ExprNode::Paren(expr)),
         height + 1,
-        16,
+        PRIMARY,
     )
 }
 
@@ -105,7 +111,7 @@ pub fn index(alloc: Global, place: Place, base: Whole, index: Whole) -> Result<W
         alloc,
         placed(place, ExprNode::Index(base, index)),
         height,
-        15,
+        POSTFIX,
     )
 }
 
@@ -125,7 +131,7 @@ pub fn call(
     ensures { IfOk result (λ w. expr_tree w.expr.value ≡ ExprTree.Call (mark place) name (argument_trees arguments.items.items)) }
 {
     let Arguments { items, height, .. } = arguments;
-    whole(alloc, call_node(place, name, items), height + 1, 16)
+    whole(alloc, call_node(place, name, items), height + 1, PRIMARY)
 }
 
 /// A member of a structure or, where `arrow`, of what a pointer points to.
@@ -145,7 +151,7 @@ pub fn selected(
     } else {
         ExprNode::Member(expr, name)
     };
-    whole(alloc, placed(place, node), height + 1, 15)
+    whole(alloc, placed(place, node), height + 1, POSTFIX)
 }
 
 pub fn step_behind(
@@ -158,14 +164,16 @@ pub fn step_behind(
     ensures { IfOk result (λ w. expr_tree w.expr.value ≡ ExprTree.Step (mark place) Bool.true down (expr_tree operand.expr.value)) }
 {
     let Whole {
-        expr: e, height, ..
+        expr: e,
+        height,
+        ..
     } = operand;
     let node = ExprNode::Step {
         post: true,
         down,
         e,
     };
-    whole(alloc, placed(place, node), height + 1, 15)
+    whole(alloc, placed(place, node), height + 1, POSTFIX)
 }
 
 pub fn step_before(
@@ -178,14 +186,16 @@ pub fn step_before(
     ensures { IfOk result (λ w. expr_tree w.expr.value ≡ ExprTree.Step (mark place) Bool.false down (expr_tree operand.expr.value)) }
 {
     let Whole {
-        expr: e, height, ..
+        expr: e,
+        height,
+        ..
     } = operand;
     let node = ExprNode::Step {
         post: false,
         down,
         e,
     };
-    whole(alloc, placed(place, node), height + 1, 14)
+    whole(alloc, placed(place, node), height + 1, UNARY)
 }
 
 pub fn unary(alloc: Global, place: Place, sign: Sign, operand: Whole) -> Result<Whole, NoMemory>
@@ -197,7 +207,7 @@ pub fn unary(alloc: Global, place: Place, sign: Sign, operand: Whole) -> Result<
         alloc,
         placed(place, ExprNode::Unary(sign, expr)),
         height + 1,
-        14,
+        UNARY,
     )
 }
 
@@ -210,36 +220,41 @@ pub fn size_of_expr(alloc: Global, place: Place, operand: Whole) -> Result<Whole
         alloc,
         placed(place, ExprNode::SizeExpr(expr)),
         height + 1,
-        14,
+        UNARY,
     )
 }
 
-pub fn size_of_type(alloc: Global, place: Place, name: WholeType) -> Result<Whole, NoMemory>
+pub fn size_of_type(alloc: Global, place: Place, name: MeasuredType) -> Result<Whole, NoMemory>
     requires { height_type (type_tree name.name) < 1000 }
     ensures { IfOk result (λ w. expr_tree w.expr.value ≡ ExprTree.SizeType (mark place) (type_tree name.name)) }
 {
-    let WholeType { name, height, .. } = name;
+    let MeasuredType { name, height, .. } = name;
     whole(
         alloc,
         placed(place, ExprNode::SizeType(name)),
         height + 1,
-        14,
+        UNARY,
     )
 }
 
-pub fn cast(alloc: Global, place: Place, name: WholeType, operand: Whole) -> Result<Whole, NoMemory>
+pub fn cast(
+    alloc: Global,
+    place: Place,
+    name: MeasuredType,
+    operand: Whole,
+) -> Result<Whole, NoMemory>
     requires low { height_type (type_tree name.name) < 1000 }
     requires small { height_of (expr_tree operand.expr.value) < 1000 }
     ensures { IfOk result (λ w. expr_tree w.expr.value ≡ ExprTree.Cast (mark place) (type_tree name.name) (expr_tree operand.expr.value)) }
 {
     let height = name.height.max(operand.height) + 1;
-    let WholeType { name, .. } = name;
+    let MeasuredType { name, .. } = name;
     let Whole { expr, .. } = operand;
     whole(
         alloc,
         placed(place, ExprNode::Cast(name, expr)),
         height,
-        13,
+        CAST,
     )
 }
 
@@ -264,7 +279,7 @@ pub fn conditional(
         alloc,
         placed(place, ExprNode::Cond(test, then, other)),
         height,
-        2,
+        COND,
     )
 }
 

@@ -2,6 +2,7 @@ ghost use Rattle.std.specs.Prelude.{◌≡◌, ◌≤◌};
 ghost use Rattle.ob_tree.specs.Levels.{binary_level as binary_level_of, is_assign as is_assign_of, is_unary as is_unary_of, infix_level, left_level as left_level_of, right_level as right_level_of};
 ghost use Rattle.ob_exprs.specs.View.{infix_of};
 
+use crate::level::{ASSIGN, EXPR, OR, UNARY};
 use crate::state::Operator;
 use ob_tree::Sign;
 
@@ -11,7 +12,7 @@ pub fn binary_level(sign: Sign) -> u32
     ensures small { result ≤ 12 }
 {
     match sign {
-        Sign::OrOr => 3,
+        Sign::OrOr => OR,
         Sign::AndAnd => 4,
         Sign::Bar => 5,
         Sign::Caret => 6,
@@ -60,8 +61,8 @@ pub fn level_of_operator(operator: Operator) -> u32
     ensures { result ≡ infix_level (infix_of operator) }
 {
     match operator {
-        Operator::Comma => 0,
-        Operator::Assign(_) => 1,
+        Operator::Comma => EXPR,
+        Operator::Assign(_) => ASSIGN,
         Operator::Binary(sign) => binary_level(sign),
     }
 }
@@ -71,8 +72,8 @@ pub fn left_level(operator: Operator) -> u32
     ensures { result ≡ left_level_of (infix_of operator) }
 {
     match operator {
-        Operator::Comma => 0,
-        Operator::Assign(_) => 14,
+        Operator::Comma => EXPR,
+        Operator::Assign(_) => UNARY,
         Operator::Binary(sign) => binary_level(sign),
     }
 }
@@ -82,7 +83,7 @@ pub fn right_level(operator: Operator) -> u32
     ensures { result ≡ right_level_of (infix_of operator) }
 {
     match operator {
-        Operator::Comma | Operator::Assign(_) => 1,
+        Operator::Comma | Operator::Assign(_) => ASSIGN,
         Operator::Binary(sign) => binary_level(sign) + 1,
     }
 }

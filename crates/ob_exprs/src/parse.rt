@@ -1,10 +1,11 @@
 ghost use Rattle.std.specs.Prelude.{◌≡◌, ◌≤◌, ◌^◌, length};
 ghost use Rattle.std.specs.List.{All};
+ghost use Rattle.ob_tree.specs.Fronts.{greatest_path};
 ghost use Rattle.ob_tree.specs.Valid.{IsOfSource};
 ghost use Rattle.ob_exprs.specs.Loads.{floor};
 ghost use Rattle.ob_exprs.specs.Parsed.{ParsedExpr, ParsedSpec};
 
-use crate::level::Level;
+use crate::level::{Level, NO_LEVEL};
 use crate::read::{finish, finish_spec, read};
 use crate::reader::Reader;
 use crate::stack::empty;
@@ -29,7 +30,7 @@ pub fn parse_expr(
     requires few { length tokens.now.items ≤ 2 ^ 20 }
     requires of_source { All (λ t. IsOfSource t.kind) tokens.now.items }
     requires from_in { from ≤ length tokens.now.items }
-    requires depth_in { depth ≤ 256 }
+    requires depth_in { depth ≤ greatest_path }
     ensures { ParsedExpr tokens.now.items from depth (floor level) result }
 {
     let start = Reader {
@@ -55,14 +56,14 @@ pub fn parse_spec(
     requires few { length tokens.now.items ≤ 2 ^ 20 }
     requires of_source { All (λ t. IsOfSource t.kind) tokens.now.items }
     requires from_in { from ≤ length tokens.now.items }
-    requires depth_in { depth ≤ 256 }
+    requires depth_in { depth ≤ greatest_path }
     ensures { ParsedSpec tokens.now.items from depth result }
 {
     let start = Reader {
         stack: empty(alloc),
         mode: Mode::Specifier,
     };
-    let (reader, place) = read(alloc, tokens.as_slice(), from, depth, 17, start)?;
+    let (reader, place) = read(alloc, tokens.as_slice(), from, depth, NO_LEVEL, start)?;
     match finish_spec(reader) {
         Some(spec) => Ok((spec, place)),
         None => Err(SyntaxFault::NoTree(place as u32)),

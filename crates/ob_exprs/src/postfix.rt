@@ -1,4 +1,5 @@
 ghost use Rattle.std.specs.Prelude.{◌≡◌, ◌≤◌, IfOk};
+ghost use Rattle.ob_tree.specs.Fronts.{greatest_path};
 ghost use Rattle.ob_tree.specs.Levels.{mark_of};
 ghost use Rattle.ob_tree.specs.ExpressionView.{expr_tree};
 ghost use Rattle.ob_tree.proofs.Frames.{After, at_sign};
@@ -8,11 +9,12 @@ ghost use Rattle.ob_exprs.specs.Loads.{load};
 ghost use Rattle.ob_exprs.specs.Reading.{Answers, held};
 ghost use Rattle.ob_exprs.specs.View.{mark};
 
+use crate::level::POSTFIX;
+use crate::measured::Whole;
 use crate::nodes::{step_behind, strings};
 use crate::reader::{Answer, Reader};
 use crate::stack::{Stack, push};
 use crate::state::{Mode, Place, Waiting};
-use crate::whole::Whole;
 use ob_base::{NoMemory, Text, with_last};
 use ob_tree::{Expr, ExprNode};
 use std::alloc::Global;
@@ -32,10 +34,10 @@ pub fn sign_place(whole: &Whole, at: u32) -> Place
 /// An opening bracket behind an operand.
 #[tactic(auto, using(crate::proofs::Behinds::shallow_2000))]
 pub fn index(stack: Stack, whole: Whole, at: u32) -> Result<Answer, NoMemory>
-    requires { load (After (expr_tree whole.expr.value) (held stack)) ≤ 256 }
+    requires { load (After (expr_tree whole.expr.value) (held stack)) ≤ greatest_path }
     ensures { IfOk result (λ a. Answers (After (expr_tree whole.expr.value) (held stack)) a (index_to at (expr_tree whole.expr.value) (held stack))) }
 {
-    if whole.level < 15 {
+    if whole.level < POSTFIX {
         return Ok(Answer::Stays(Reader {
             stack,
             mode: Mode::After(whole),
@@ -53,7 +55,7 @@ pub fn index(stack: Stack, whole: Whole, at: u32) -> Result<Answer, NoMemory>
 pub fn select(stack: Stack, whole: Whole, at: u32, arrow: bool) -> Answer
     ensures { Answers (After (expr_tree whole.expr.value) (held stack)) result (select_to at arrow (expr_tree whole.expr.value) (held stack)) }
 {
-    if whole.level < 15 {
+    if whole.level < POSTFIX {
         return Answer::Stays(Reader {
             stack,
             mode: Mode::After(whole),
@@ -74,10 +76,10 @@ pub fn step(
     at: u32,
     down: bool,
 ) -> Result<Answer, NoMemory>
-    requires { load (After (expr_tree whole.expr.value) (held stack)) ≤ 256 }
+    requires { load (After (expr_tree whole.expr.value) (held stack)) ≤ greatest_path }
     ensures { IfOk result (λ a. Answers (After (expr_tree whole.expr.value) (held stack)) a (step_to at down (expr_tree whole.expr.value) (held stack))) }
 {
-    if whole.level < 15 {
+    if whole.level < POSTFIX {
         return Ok(Answer::Stays(Reader {
             stack,
             mode: Mode::After(whole),

@@ -1,4 +1,5 @@
 ghost use Rattle.std.specs.Prelude.{◌≡◌, ◌≤◌, ◌^◌, [], IfOk, length, option_map};
+ghost use Rattle.ob_tree.specs.Fronts.{greatest_path};
 ghost use Rattle.ob_tree.specs.ExpressionView.{expr_tree, spec_tree};
 ghost use Rattle.ob_tree.proofs.Frames.{After, AfterSpec, Operand};
 ghost use Rattle.ob_tree.proofs.Machine.{finish as finish_of, finish_spec as finish_spec_of};
@@ -6,13 +7,14 @@ ghost use Rattle.ob_exprs.specs.Loads.{load};
 ghost use Rattle.ob_exprs.specs.Reading.{held, state_of};
 ghost use Rattle.ob_exprs.specs.Reads.{Reads, reading};
 
+use crate::level::EXPR;
+use crate::measured::{MeasuredSpec, Whole};
 use crate::newest::newest;
 use crate::reader::{Answer, Reader};
 use crate::reduce::reduce;
 use crate::stack::{Stack, empty};
 use crate::state::{Mode, Place};
 use crate::steps::step;
-use crate::whole::{Whole, WholeSpec};
 use ob_base::{NoMemory, let_go};
 use ob_tree::{Expr, Spec, SyntaxFault, Token};
 use std::alloc::Global;
@@ -32,10 +34,10 @@ fn nothing(alloc: Global) -> Reader
 
 /// The expression of the last operand, where nothing waits behind it.
 fn finish_operand(alloc: Global, stack: Stack, whole: Whole) -> Result<Option<Expr>, NoMemory>
-    requires { load (After (expr_tree whole.expr.value) (held stack)) ≤ 256 }
+    requires { load (After (expr_tree whole.expr.value) (held stack)) ≤ greatest_path }
     ensures { IfOk result (λ o. option_map expr_tree o ≡ finish_of (After (expr_tree whole.expr.value) (held stack))) }
 {
-    let (stack, whole) = reduce(alloc, stack, whole, 0)?;
+    let (stack, whole) = reduce(alloc, stack, whole, EXPR)?;
     let Whole { expr, .. } = whole;
     if stack.waiting.is_empty() {
         Ok(Some(Box::into_inner(expr)))
@@ -46,7 +48,7 @@ fn finish_operand(alloc: Global, stack: Stack, whole: Whole) -> Result<Option<Ex
 
 /// The whole expression, where nothing waits.
 pub fn finish(alloc: Global, reader: Reader) -> Result<Option<Expr>, NoMemory>
-    requires { load (state_of reader) ≤ 256 }
+    requires { load (state_of reader) ≤ greatest_path }
     ensures { IfOk result (λ o. option_map expr_tree o ≡ finish_of (state_of reader)) }
 {
     let Reader { stack, mode } = reader;
@@ -60,10 +62,10 @@ pub fn finish(alloc: Global, reader: Reader) -> Result<Option<Expr>, NoMemory>
 }
 
 /// The specifier, where nothing waits behind it.
-fn finish_whole_spec(stack: Stack, spec: WholeSpec) -> Option<Spec>
+fn finish_specifier(stack: Stack, spec: MeasuredSpec) -> Option<Spec>
     ensures { option_map spec_tree result ≡ finish_spec_of (AfterSpec (spec_tree spec.spec) (held stack)) }
 {
-    let WholeSpec { spec, .. } = spec;
+    let MeasuredSpec { spec, .. } = spec;
     if stack.waiting.is_empty() {
         Some(spec)
     } else {
@@ -78,7 +80,7 @@ pub fn finish_spec(reader: Reader) -> Option<Spec>
 {
     let Reader { stack, mode } = reader;
     match mode {
-        Mode::AfterSpec(spec) => finish_whole_spec(stack, spec),
+        Mode::AfterSpec(spec) => finish_specifier(stack, spec),
         other => {
             let_go(other);
             None
@@ -97,7 +99,7 @@ pub fn read(
 ) -> Result<(Reader, usize), SyntaxFault>
     requires few { length tokens.now ≤ 2 ^ 20 }
     requires from_in { from ≤ length tokens.now }
-    requires depth_in { depth ≤ 256 }
+    requires depth_in { depth ≤ greatest_path }
     requires nothing_yet { load (state_of start) ≤ 0 }
     ensures reads { Reads (reading tokens.now least depth from (state_of start)) result }
     ensures within { IfOk result (λ r. r.1 ≤ length tokens.now) }

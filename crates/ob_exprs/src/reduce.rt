@@ -1,14 +1,15 @@
 ghost use Rattle.std.specs.Prelude.{◌≡◌, ◌≤◌, ◌<◌, IfOk};
+ghost use Rattle.ob_tree.specs.Fronts.{greatest_path};
 ghost use Rattle.ob_tree.specs.Paths.{height as height_of};
 ghost use Rattle.ob_tree.specs.ExpressionView.{expr_tree};
 ghost use Rattle.ob_tree.proofs.Frames.{After, close as close_of, reduce as reduce_of};
 ghost use Rattle.ob_exprs.specs.Loads.{depth_of, inner as inner_of, load};
 ghost use Rattle.ob_exprs.specs.View.{closed_top, frame_of, frames};
 
+use crate::measured::Whole;
 use crate::nodes::{cast, conditional, join, size_of_expr, step_before, unary};
 use crate::stack::{Stack, pop, top_grip};
 use crate::state::Waiting;
-use crate::whole::Whole;
 use ob_base::{NoMemory, let_go};
 use std::alloc::Global;
 
@@ -35,7 +36,7 @@ fn close(alloc: Global, waiting: Waiting, operand: Whole) -> Result<Whole, NoMem
 /// Gives the newest node its last operand.
 #[tactic(auto, using(crate::proofs::Turns::top_small, crate::proofs::Turns::shallow))]
 fn close_top(alloc: Global, stack: Stack, operand: Whole) -> Result<(Stack, Whole), NoMemory>
-    requires { load (After (expr_tree operand.expr.value) (frames stack.waiting.items)) ≤ 256 }
+    requires { load (After (expr_tree operand.expr.value) (frames stack.waiting.items)) ≤ greatest_path }
     ensures { IfOk result (λ r. (expr_tree r.1.expr.value, frames r.0.waiting.items) ≡ closed_top (expr_tree operand.expr.value) (frames stack.waiting.items)) }
 {
     let (stack, top) = pop(stack);
@@ -56,7 +57,7 @@ pub fn reduce(
     operand: Whole,
     most: u32,
 ) -> Result<(Stack, Whole), NoMemory>
-    requires { load (After (expr_tree operand.expr.value) (frames stack.waiting.items)) ≤ 256 }
+    requires { load (After (expr_tree operand.expr.value) (frames stack.waiting.items)) ≤ greatest_path }
     ensures reduced { IfOk result (λ r. (expr_tree r.1.expr.value, frames r.0.waiting.items) ≡ reduce_of most (expr_tree operand.expr.value) (frames stack.waiting.items)) }
     ensures again { IfOk result (λ r. reduce_of 0 (expr_tree r.1.expr.value) (frames r.0.waiting.items) ≡ reduce_of 0 (expr_tree operand.expr.value) (frames stack.waiting.items)) }
     ensures loaded { IfOk result (λ r. load (After (expr_tree r.1.expr.value) (frames r.0.waiting.items)) ≤ load (After (expr_tree operand.expr.value) (frames stack.waiting.items))) }

@@ -4,14 +4,14 @@ ghost use Rattle.ob_tree.specs.Paths.{height_members};
 ghost use Rattle.ob_tree.specs.ExpressionView.{spec_tree};
 ghost use Rattle.ob_exprs.specs.Lists.{member_trees};
 
-use crate::whole::{Members, WholeSpec};
+use crate::measured::{MeasuredSpec, Members};
 use ob_base::Text;
 use ob_tree::{Keyword, MemberDecl, Spec, SpecNode};
 
-pub fn void(first: u32) -> WholeSpec
+pub fn void(first: u32) -> MeasuredSpec
     ensures { spec_tree result.spec ≡ SpecTree.Void first }
 {
-    WholeSpec {
+    MeasuredSpec {
         spec: Spec {
             first,
             node: SpecNode::Void,
@@ -20,10 +20,10 @@ pub fn void(first: u32) -> WholeSpec
     }
 }
 
-pub fn size_t(first: u32) -> WholeSpec
+pub fn size_t(first: u32) -> MeasuredSpec
     ensures { spec_tree result.spec ≡ SpecTree.SizeT first }
 {
-    WholeSpec {
+    MeasuredSpec {
         spec: Spec {
             first,
             node: SpecNode::SizeT,
@@ -32,10 +32,10 @@ pub fn size_t(first: u32) -> WholeSpec
     }
 }
 
-pub fn integer(first: u32, words: Vec<Keyword>) -> WholeSpec
+pub fn integer(first: u32, words: Vec<Keyword>) -> MeasuredSpec
     ensures { spec_tree result.spec ≡ SpecTree.Integer first words.items }
 {
-    WholeSpec {
+    MeasuredSpec {
         spec: Spec {
             first,
             node: SpecNode::Integer(words),
@@ -44,10 +44,10 @@ pub fn integer(first: u32, words: Vec<Keyword>) -> WholeSpec
     }
 }
 
-pub fn tag(first: u32, tag: Text) -> WholeSpec
+pub fn tag(first: u32, tag: Text) -> MeasuredSpec
     ensures { spec_tree result.spec ≡ SpecTree.Tag first tag }
 {
-    WholeSpec {
+    MeasuredSpec {
         spec: Spec {
             first,
             node: SpecNode::Tag(tag),
@@ -65,12 +65,12 @@ fn structure_spec(first: u32, tag: Option<Text>, members: Vec<MemberDecl>) -> Sp
     }
 }
 
-pub fn structure(first: u32, tag: Option<Text>, members: Members) -> WholeSpec
+pub fn structure(first: u32, tag: Option<Text>, members: Members) -> MeasuredSpec
     requires { height_members (member_trees members.items.items) < 1000 }
     ensures { spec_tree result.spec ≡ SpecTree.Struct first tag (member_trees members.items.items) }
 {
     let Members { items, height, .. } = members;
-    WholeSpec {
+    MeasuredSpec {
         spec: structure_spec(first, tag, items),
         height: height + 1,
     }

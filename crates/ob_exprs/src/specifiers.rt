@@ -1,4 +1,5 @@
 ghost use Rattle.std.specs.Prelude.{◌≡◌, ◌≤◌, ◌<◌, IfOk};
+ghost use Rattle.ob_tree.specs.Fronts.{greatest_path};
 ghost use Rattle.ob_tree.specs.Trees.{SpecTree};
 ghost use Rattle.ob_tree.specs.ExpressionView.{spec_tree};
 ghost use Rattle.ob_tree.proofs.Frames.{AfterSpec, Members as members_state};
@@ -12,12 +13,12 @@ ghost use Rattle.ob_exprs.specs.View.{body_of};
 use crate::brackets::{after_dims, declare};
 use crate::integers::is_integer;
 use crate::lists::{no_dims, no_members, no_names};
+use crate::measured::MeasuredSpec;
 use crate::operands::specifier;
 use crate::reader::{Answer, Reader};
 use crate::spec_nodes::{integer, structure, tag};
 use crate::stack::{Stack, pop, push};
 use crate::state::{Body, Head, Line, Mode, Place, Waiting};
-use crate::whole::WholeSpec;
 use ob_base::{NoMemory, let_go};
 use ob_tree::{Keyword, Sign, Spec, SpecNode, TokenKind};
 use std::alloc::Global;
@@ -57,16 +58,16 @@ fn integer_to(
 }
 
 /// A word behind a specifier.
-fn word(stack: Stack, spec: WholeSpec, word: Keyword) -> Result<Answer, NoMemory>
+fn word(stack: Stack, spec: MeasuredSpec, word: Keyword) -> Result<Answer, NoMemory>
     ensures { IfOk result (λ a. Answers (AfterSpec (spec_tree spec.spec) (held stack)) a (word_to word (spec_tree spec.spec) (held stack))) }
 {
-    let WholeSpec { spec, height, .. } = spec;
+    let MeasuredSpec { spec, height, .. } = spec;
     let Spec { first, node } = spec;
     match node {
         SpecNode::Integer(words) => integer_to(stack, first, words, word),
         node => Ok(Answer::Stays(Reader {
             stack,
-            mode: Mode::AfterSpec(WholeSpec {
+            mode: Mode::AfterSpec(MeasuredSpec {
                 spec: Spec { first, node },
                 height,
             }),
@@ -75,10 +76,10 @@ fn word(stack: Stack, spec: WholeSpec, word: Keyword) -> Result<Answer, NoMemory
 }
 
 /// An opening brace behind a specifier.
-fn brace(alloc: Global, stack: Stack, spec: WholeSpec) -> Answer
+fn brace(alloc: Global, stack: Stack, spec: MeasuredSpec) -> Answer
     ensures { Answers (AfterSpec (spec_tree spec.spec) (held stack)) result (brace_to (spec_tree spec.spec) (held stack)) }
 {
-    let WholeSpec { spec, height, .. } = spec;
+    let MeasuredSpec { spec, height, .. } = spec;
     let Spec { first, node } = spec;
     match node {
         SpecNode::Tag(tag) => {
@@ -94,7 +95,7 @@ fn brace(alloc: Global, stack: Stack, spec: WholeSpec) -> Answer
         }
         node => Answer::Stays(Reader {
             stack,
-            mode: Mode::AfterSpec(WholeSpec {
+            mode: Mode::AfterSpec(MeasuredSpec {
                 spec: Spec { first, node },
                 height,
             }),
@@ -107,11 +108,11 @@ fn brace(alloc: Global, stack: Stack, spec: WholeSpec) -> Answer
 fn under(
     alloc: Global,
     stack: Stack,
-    spec: WholeSpec,
+    spec: MeasuredSpec,
     kind: &TokenKind,
     at: u32,
 ) -> Result<Answer, NoMemory>
-    requires small { load (AfterSpec (spec_tree spec.spec) (held stack)) ≤ 256 }
+    requires small { load (AfterSpec (spec_tree spec.spec) (held stack)) ≤ greatest_path }
     requires shallow { depth_of (held stack) ≤ 1000 }
     ensures { IfOk result (λ a. Answers (AfterSpec (spec_tree spec.spec) (held stack)) a (spec_under_of at kind.now (spec_tree spec.spec) (held stack))) }
 {
@@ -149,11 +150,11 @@ fn under(
 pub fn after_spec(
     alloc: Global,
     stack: Stack,
-    spec: WholeSpec,
+    spec: MeasuredSpec,
     kind: &TokenKind,
     at: u32,
 ) -> Result<Answer, NoMemory>
-    requires small { load (AfterSpec (spec_tree spec.spec) (held stack)) ≤ 256 }
+    requires small { load (AfterSpec (spec_tree spec.spec) (held stack)) ≤ greatest_path }
     requires shallow { depth_of (held stack) ≤ 1000 }
     ensures { IfOk result (λ a. Answers (AfterSpec (spec_tree spec.spec) (held stack)) a (after_spec_of at kind.now (spec_tree spec.spec) (held stack))) }
 {
@@ -188,7 +189,7 @@ pub fn structured(
 /// The closing brace of a structure, which stands behind members.
 #[tactic(auto, using(crate::proofs::Rows::struct_some, crate::proofs::Rows::struct_none))]
 fn close_struct(stack: Stack, body: Body) -> Option<Reader>
-    requires { load (members_state (body_of body) (held stack)) ≤ 256 }
+    requires { load (members_state (body_of body) (held stack)) ≤ greatest_path }
     ensures { Leads result (close_struct_of body.first body.tag (member_trees body.members.items.items) (held stack)) }
 {
     let Body {
@@ -214,7 +215,7 @@ pub fn members(
     kind: &TokenKind,
     place: Place,
 ) -> Result<Option<Reader>, NoMemory>
-    requires small { load (members_state (body_of body) (held stack)) ≤ 256 }
+    requires small { load (members_state (body_of body) (held stack)) ≤ greatest_path }
     requires shallow { depth_of (held stack) ≤ 1000 }
     ensures { IfOk result (λ o. Leads o (members_to place.first kind.now (body_of body) (held stack))) }
 {

@@ -5,6 +5,7 @@ ghost use Rattle.ob_tree.proofs.Settled.{top_grip as top_grip_of};
 ghost use Rattle.ob_exprs.specs.Loads.{depth_of, head_rise as head_rise_of, inner as inner_of, newest_stack, rise as rise_of};
 ghost use Rattle.ob_exprs.specs.View.{frame_of, frames, head_of};
 
+use crate::level::{ASSIGN, CAST, COND, EXPR, NO_LEVEL, UNARY};
 use crate::operators::right_level;
 use crate::state::{Head, Waiting};
 use ob_base::NoMemory;
@@ -117,13 +118,13 @@ fn hole(waiting: &Waiting) -> u32
     ensures { result ≡ hole_of (frame_of waiting.now) }
 {
     match waiting {
-        Waiting::Paren(_) | Waiting::Index(_, _) | Waiting::Then(_, _) => 0,
-        Waiting::Call(_, _, _) => 1,
-        Waiting::Step(_, _) | Waiting::Size(_) => 14,
-        Waiting::Unary(_, _) | Waiting::Cast(_, _) => 13,
+        Waiting::Paren(_) | Waiting::Index(_, _) | Waiting::Then(_, _) => EXPR,
+        Waiting::Call(_, _, _) => ASSIGN,
+        Waiting::Step(_, _) | Waiting::Size(_) => UNARY,
+        Waiting::Unary(_, _) | Waiting::Cast(_, _) => CAST,
         Waiting::Join(_, operator, _) => right_level(*operator),
-        Waiting::Else(_, _, _) | Waiting::Length(_, _) => 2,
-        Waiting::Type(_, _) | Waiting::Struct(_) => 17,
+        Waiting::Else(_, _, _) | Waiting::Length(_, _) => COND,
+        Waiting::Type(_, _) | Waiting::Struct(_) => NO_LEVEL,
     }
 }
 
@@ -141,10 +142,10 @@ fn grip(waiting: &Waiting) -> u32
     ensures { result ≡ grip_of (frame_of waiting.now) }
 {
     match waiting {
-        Waiting::Step(_, _) | Waiting::Size(_) => 14,
-        Waiting::Unary(_, _) | Waiting::Cast(_, _) => 13,
+        Waiting::Step(_, _) | Waiting::Size(_) => UNARY,
+        Waiting::Unary(_, _) | Waiting::Cast(_, _) => CAST,
         Waiting::Join(_, operator, _) => right_level(*operator),
-        Waiting::Else(_, _, _) => 2,
+        Waiting::Else(_, _, _) => COND,
         _ => 0,
     }
 }

@@ -6,13 +6,14 @@ ghost use Rattle.ob_exprs.specs.Loads.{depth_of};
 ghost use Rattle.ob_exprs.specs.Reading.{Leads, held};
 ghost use Rattle.ob_exprs.specs.View.{mark};
 
+use crate::level::CAST;
 use crate::lists::no_arguments;
+use crate::measured::Whole;
 use crate::nodes::{call, selected};
 use crate::operands::{begins_spec, operand, operand_word, spec_word};
 use crate::reader::Reader;
 use crate::stack::{Stack, push, top_hole};
 use crate::state::{Mode, Place, Waiting};
-use crate::whole::Whole;
 use ob_base::{NoMemory, Text};
 use ob_tree::{Keyword, Sign, TokenKind};
 use std::alloc::Global;
@@ -33,7 +34,7 @@ fn opened_word(
         let stack = push(stack, Waiting::Paren(paren))?;
         return operand_word(alloc, stack, word, place);
     }
-    if 13 < top_hole(&stack, least) {
+    if CAST < top_hole(&stack, least) {
         return Ok(None);
     }
     let stack = push(stack, Waiting::Type(paren, false))?;

@@ -1,4 +1,4 @@
-use crate::whole::{Arguments, Dims, Members, Names, Whole, WholeSpec, WholeType};
+use crate::measured::{Arguments, Dims, MeasuredSpec, MeasuredType, Members, Names, Whole};
 use ob_base::Text;
 use ob_tree::Sign;
 
@@ -31,7 +31,7 @@ pub struct Body {
 #[derive(Drop)]
 pub struct Line {
     pub body: Body,
-    pub spec: WholeSpec,
+    pub spec: MeasuredSpec,
     pub names: Names,
 }
 
@@ -42,7 +42,7 @@ pub enum Head {
     Type {
         place: Place,
         sized: bool,
-        spec: WholeSpec,
+        spec: MeasuredSpec,
         stars: u32,
     },
     /// The stars and the name of a member.
@@ -63,7 +63,7 @@ pub enum Waiting {
     Step(Place, bool),
     Unary(Place, Sign),
     Size(Place),
-    Cast(Place, WholeType),
+    Cast(Place, MeasuredType),
     Join(Place, Operator, Whole),
     /// Between `?` and `:`.
     Then(Place, Whole),
@@ -105,5 +105,5 @@ pub enum Mode {
     /// A row of brackets was read.
     Dims(Head, Dims),
     /// A whole specifier was read.
-    AfterSpec(WholeSpec),
+    AfterSpec(MeasuredSpec),
 }

@@ -1,4 +1,5 @@
 ghost use Rattle.std.specs.Prelude.{◌≡◌, ◌≤◌, ◌<◌, Bool, IfOk};
+ghost use Rattle.ob_tree.specs.Fronts.{greatest_path};
 ghost use Rattle.ob_tree.specs.ExpressionView.{expr_tree};
 ghost use Rattle.ob_tree.proofs.Frames.{After};
 ghost use Rattle.ob_tree.proofs.Machine.{after as after_of, after_sign as after_sign_of, step as step_of};
@@ -9,6 +10,7 @@ ghost use Rattle.ob_exprs.specs.View.{mark};
 
 use crate::behind::{behind, closing_level};
 use crate::brackets::{after_dims, declare};
+use crate::measured::Whole;
 use crate::operands::{operand, specifier};
 use crate::postfix::{call, index, select as select_behind, step as step_behind, string};
 use crate::reader::{Answer, Reader};
@@ -17,7 +19,6 @@ use crate::specifiers::{after_spec, answered, members, structured};
 use crate::stack::Stack;
 use crate::starts::{called, opened, select, size_opened, sized};
 use crate::state::{Mode, Place};
-use crate::whole::Whole;
 use ob_base::NoMemory;
 use ob_tree::{Sign, TokenKind};
 use std::alloc::Global;
@@ -31,7 +32,7 @@ fn closing(
     at: u32,
     least: u32,
 ) -> Result<Answer, NoMemory>
-    requires small { load (After (expr_tree whole.expr.value) (held stack)) ≤ 256 }
+    requires small { load (After (expr_tree whole.expr.value) (held stack)) ≤ greatest_path }
     requires other { is_postfix_of sign ≡ Bool.false }
     ensures { IfOk result (λ a. Answers (After (expr_tree whole.expr.value) (held stack)) a (after_sign_of least at sign (expr_tree whole.expr.value) (held stack))) }
 {
@@ -48,7 +49,7 @@ fn after_sign(
     at: u32,
     least: u32,
 ) -> Result<Answer, NoMemory>
-    requires { load (After (expr_tree whole.expr.value) (held stack)) ≤ 256 }
+    requires { load (After (expr_tree whole.expr.value) (held stack)) ≤ greatest_path }
     ensures { IfOk result (λ a. Answers (After (expr_tree whole.expr.value) (held stack)) a (after_sign_of least at sign (expr_tree whole.expr.value) (held stack))) }
 {
     match sign {
@@ -71,7 +72,7 @@ fn after(
     at: u32,
     least: u32,
 ) -> Result<Answer, NoMemory>
-    requires { load (After (expr_tree whole.expr.value) (held stack)) ≤ 256 }
+    requires { load (After (expr_tree whole.expr.value) (held stack)) ≤ greatest_path }
     ensures { IfOk result (λ a. Answers (After (expr_tree whole.expr.value) (held stack)) a (after_of least at kind.now (expr_tree whole.expr.value) (held stack))) }
 {
     match kind {
@@ -94,7 +95,7 @@ pub fn step(
     place: Place,
     least: u32,
 ) -> Result<Answer, NoMemory>
-    requires small { load (state_of reader) ≤ 256 }
+    requires small { load (state_of reader) ≤ greatest_path }
     requires shallow { depth_of (held reader.stack) ≤ 1000 }
     ensures { IfOk result (λ a. Answers (state_of reader) a (step_of least (mark place) kind.now (state_of reader))) }
 {

@@ -19,7 +19,7 @@ pub struct Whole {
 
 /// A whole specifier, with the number of nodes on its longest path.
 #[derive(Drop)]
-pub struct WholeSpec {
+pub struct MeasuredSpec {
     pub spec: Spec,
     pub height: u32,
     ghost height_is: { height ≡ height_spec (spec_tree spec) },
@@ -27,7 +27,7 @@ pub struct WholeSpec {
 
 /// A whole type name, with the number of nodes on its longest path.
 #[derive(Drop)]
-pub struct WholeType {
+pub struct MeasuredType {
     pub name: TypeName,
     pub height: u32,
     ghost height_is: { height ≡ height_type (type_tree name) },
@@ -54,7 +54,7 @@ pub struct Dims {
 
 /// A declarator, with the number of nodes on its longest path.
 #[derive(Drop)]
-pub struct WholeObj {
+pub struct MeasuredDeclarator {
     pub declarator: ObjDecl,
     pub height: u32,
     ghost height_is: { height ≡ height_obj (obj_tree declarator) },
