@@ -6,7 +6,7 @@ use Rattle.ob_tree.specs.declared.tokens.Sign.TheVariants as sign
 use Rattle.ob_tree.specs.Trees.{ExprTree, ExprTrees, SpecTree, MemberTrees, ObjTree, ObjTrees, DimTrees}
 use Rattle.ob_tree.specs.Spelling.{spell, spell_arguments, spell_more_arguments, spell_spec, spell_members, spell_objs, spell_more_objs, spell_obj, spell_dims}
 use Rattle.ob_tree.specs.Valid.{ValidArguments, ValidStrings, ValidSpec, ValidMembers, ValidMemberNames, ValidMemberName, ValidDims, HasDeclarator, HasMember, IsSpelled, IsOf}
-use Rattle.ob_tree.proofs.Frames.{add_argument, add_dim, add_obj, add_member}
+use Rattle.ob_tree.specs.ExprStates.{add_argument, add_dim, add_obj, add_member}
 use Rattle.ob_exprs.proofs.Shapes.{spell_arguments_before, spell_objs_before}
 
 -- the last of a list with commas

@@ -7,7 +7,7 @@ use Rattle.ob_tree.specs.Spelling.{spell, spell_arguments, spell_more_arguments,
 use Rattle.ob_tree.specs.Valid.{Valid, ValidArguments, ValidType, ValidSpec, ValidMembers, ValidMemberNames, ValidMemberName, ValidDims}
 use Rattle.ob_tree.specs.Places.{width, width_name, width_type, width_spec, width_objs, width_obj, width_dims, width_init}
 use Rattle.ob_tree.specs.Paths.{node_with, begun, begun_arguments, begun_type, begun_spec, begun_members, begun_objs, begun_obj, begun_dims, height, height_arguments, height_type, height_spec, height_members, height_objs, height_obj, height_dims}
-use Rattle.ob_tree.proofs.SpecSteps.{length-stars}
+use Rattle.ob_tree.proofs.SpecShifts.{length-stars}
 
 node-pos : (k x : ℕ) → 0 < k → node_with k x ≡ 1 + x
 node-pos zero x h = absurd (omega arith)
@@ -32,9 +32,9 @@ width-member m b name = length-append (spell b) (kind.Sign sign.Dot ∷ (kind.Na
 pub width-arrow : (m : Mark) (b : ExprTree) (name : List ℕ) → width (ExprTree.Arrow m b name) ≡ width b + 2
 width-arrow m b name = length-append (spell b) (kind.Sign sign.Arrow ∷ (kind.Name name ∷ []))
 
-pub width-step : (m : Mark) (post down : Bool) (e : ExprTree) → width (ExprTree.Step m post down e) ≡ width e + 1
-width-step m false down e = omega arith
-width-step m true down e = length-append (spell e) (_ ∷ [])
+pub width-shift : (m : Mark) (post down : Bool) (e : ExprTree) → width (ExprTree.Step m post down e) ≡ width e + 1
+width-shift m false down e = omega arith
+width-shift m true down e = length-append (spell e) (_ ∷ [])
 
 pub width-size_type : (m : Mark) (t : TypeTree) → width (ExprTree.SizeType m t) ≡ width_type t + 3
 width-size_type m t = omega (arith, length-append (spell_type t) (kind.Sign sign.CloseParen ∷ []))
@@ -102,7 +102,7 @@ some-width (ExprTree.Index m b i) v = omega (arith, width-index m b i)
 some-width (ExprTree.Call m name es) v = omega arith
 some-width (ExprTree.Member m b name) v = omega (arith, width-member m b name)
 some-width (ExprTree.Arrow m b name) v = omega (arith, width-arrow m b name)
-some-width (ExprTree.Step m post down e) v = omega (arith, width-step m post down e)
+some-width (ExprTree.Step m post down e) v = omega (arith, width-shift m post down e)
 some-width (ExprTree.Unary m s e) v = omega arith
 some-width (ExprTree.SizeExpr m e) v = omega arith
 some-width (ExprTree.SizeType m t) v = omega arith
@@ -131,7 +131,7 @@ mutual
   begun-full (ExprTree.Step m false down e) k v h =
       node-pos k (begun e (k - 1)) (omega arith) ∙ ap (λ x. 1 + x) (begun-full e (k - 1) v.0 (omega arith))
   begun-full (ExprTree.Step m true down e) k v h =
-      node-pos k (begun e (k - 0)) (omega (arith, width-step m true down e)) ∙ ap (λ x. 1 + x) (begun-full e (k - 0) v.0 (omega (arith, width-step m true down e)))
+      node-pos k (begun e (k - 0)) (omega (arith, width-shift m true down e)) ∙ ap (λ x. 1 + x) (begun-full e (k - 0) v.0 (omega (arith, width-shift m true down e)))
   begun-full (ExprTree.Unary m s e) k v h =
       node-pos k (begun e (k - 1)) (omega arith) ∙ ap (λ x. 1 + x) (begun-full e (k - 1) v.1 (omega arith))
   begun-full (ExprTree.SizeExpr m e) k v h =

@@ -1,4 +1,4 @@
--- A frame with least operands for what doesn't stand there yet, and its nodes that have begun.
+-- A pending node with least operands for what doesn't stand there yet, and its nodes that have begun.
 use Rattle.std.proofs.Common.{◌≡◌, ℕ, zero, suc, ◌+◌, ◌-◌, ◌≤◌, inl, inr, max, List, [], ◌∷◌, ◌++◌, length, Bool, true, false, refl, ◌∙◌, ap, arith, append_assoc, length-append}
 use Rattle.ob_tree.specs.declared.tokens.TokenKind.{TokenKind}
 use Rattle.ob_tree.specs.declared.tokens.TokenKind.TheVariants as kind
@@ -12,10 +12,10 @@ use Rattle.ob_tree.specs.Spelling.{spell, spell_type, spell_spec, spell_members,
 use Rattle.ob_tree.specs.Valid.{ValidName, ValidArguments, ValidType, ValidSpec, ValidMembers, ValidMemberNames, ValidMemberName, ValidDims, IsOf}
 use Rattle.ob_tree.specs.Places.{width, width_name, width_type, width_spec, width_objs, width_obj, width_dims}
 use Rattle.ob_tree.specs.Paths.{begun, begun_arguments, begun_type, begun_spec, begun_members, begun_objs, begun_obj, begun_dims, height_arguments, height_spec, height_members, height_objs, height_dims}
-use Rattle.ob_tree.proofs.Frames.{Body, Line, Frame, InType, top_hole, add_argument, add_dim, add_obj, add_member}
-use Rattle.ob_exprs.specs.Loads.{count, line_height}
+use Rattle.ob_tree.specs.ExprStates.{StructBody, StructDeclaration, PendingNode, InType, top_operand_level, add_argument, add_dim, add_obj, add_member}
+use Rattle.ob_exprs.specs.DeepestPaths.{count, line_height}
 use Rattle.ob_exprs.proofs.Begun.{begun-full, full-spec, full-names, full-name, width-sized, width-line}
-use Rattle.ob_exprs.proofs.Shapes.{spell_arguments_before, spell_objs_before, body_spell, line_spell, type_start, LineOk, FrameFits}
+use Rattle.ob_exprs.proofs.Shapes.{spell_arguments_before, spell_objs_before, body_spell, line_spell, type_start, LineOk, PendingFits}
 use Rattle.ob_exprs.proofs.Adding.{members-added, members-valid, members-some, objs-added, objs-valid, objs-some}
 
 -- the least operand, and a name
@@ -111,16 +111,16 @@ begun-member (MemberTrees.MemberLine t others ms) s names k j v g =
     )
 
 -- a structure whose last line has one name more
-abbrev pub struct_with : Line → ObjTree → SpecTree
+abbrev pub struct_with : StructDeclaration → ObjTree → SpecTree
 struct_with l o = SpecTree.Struct l.body.first l.body.tag (add_member l.body.members l.spec (add_obj l.names o))
 
-pub length-body : (b : Body) → length (body_spell b) ≡ width_name b.tag + length (spell_members b.members) + 2
+pub length-body : (b : StructBody) → length (body_spell b) ≡ width_name b.tag + length (spell_members b.members) + 2
 length-body b = omega (arith, length-append (spell_name b.tag) (kind.Sign sign.OpenBrace ∷ spell_members b.members))
 
-pub length-line : (l : Line) → length (line_spell l) ≡ width_name l.body.tag + length (spell_members l.body.members) + 2 + width_spec l.spec + length (spell_objs_before l.names)
+pub length-line : (l : StructDeclaration) → length (line_spell l) ≡ width_name l.body.tag + length (spell_members l.body.members) + 2 + width_spec l.spec + length (spell_objs_before l.names)
 length-line l = omega (arith, length-body l.body, length-append (body_spell l.body) (spell_spec l.spec ++ spell_objs_before l.names), length-append (spell_spec l.spec) (spell_objs_before l.names))
 
-pub struct-begun : (l : Line) (o : ObjTree) (k j : ℕ) → LineOk l → k ≡ length (line_spell l) + j → begun_spec (struct_with l o) k ≤ 1 + max (line_height l) (begun_obj o j)
+pub struct-begun : (l : StructDeclaration) (o : ObjTree) (k j : ℕ) → LineOk l → k ≡ length (line_spell l) + j → begun_spec (struct_with l o) k ≤ 1 + max (line_height l) (begun_obj o j)
 struct-begun l o zero j v g = omega arith
 struct-begun l o (suc k) j v g =
     let i = length (spell_objs_before l.names) + j in
@@ -135,7 +135,7 @@ struct-begun l o (suc k) j v g =
       a,
     )
 
-pub struct-spell : (l : Line) (o : ObjTree) → spell_spec (struct_with l o) ≡ line_spell l ++ (spell_obj o ++ kind.Sign sign.Semi ∷ (kind.Sign sign.CloseBrace ∷ []))
+pub struct-spell : (l : StructDeclaration) (o : ObjTree) → spell_spec (struct_with l o) ≡ line_spell l ++ (spell_obj o ++ kind.Sign sign.Semi ∷ (kind.Sign sign.CloseBrace ∷ []))
 struct-spell l o =
     let ms = spell_members l.body.members in
     let zs = kind.Sign sign.Semi ∷ [] in
@@ -147,7 +147,7 @@ struct-spell l o =
     groups : (t b m s o p z e : List TokenKind) → t ++ (b ++ ((m ++ (s ++ ((o ++ p) ++ z))) ++ e)) ≡ (t ++ (b ++ m)) ++ (s ++ o) ++ (p ++ (z ++ e))
     groups t b m s o p z e = simp append_assoc
 
-pub struct-valid : (l : Line) (o : ObjTree) → LineOk l → ValidMemberName o → ValidSpec (struct_with l o)
+pub struct-valid : (l : StructDeclaration) (o : ObjTree) → LineOk l → ValidMemberName o → ValidSpec (struct_with l o)
 struct-valid l o v w = (v.0.0, members-some l.body.members l.spec (add_obj l.names o), members-valid l.body.members l.spec (add_obj l.names o) v.0.1 v.1 (objs-some l.names o) (objs-valid l.names o v.2 w))
 
 -- a type name with one bracket more
@@ -169,7 +169,7 @@ pub type-filled-spell : (m : Mark) (z : Bool) (t : TypeTree) → spell (type_fil
 type-filled-spell m false t = refl
 type-filled-spell m true t = refl
 
-pub type-filled-of : (m : Mark) (z : Bool) (t : TypeTree) (least : ℕ) (fs : List Frame) → ValidType t → FrameFits least fs (InType m z) → IsOf (top_hole least fs) (type_filled m z t)
+pub type-filled-of : (m : Mark) (z : Bool) (t : TypeTree) (least : ℕ) (fs : List PendingNode) → ValidType t → PendingFits least fs (InType m z) → IsOf (top_operand_level least fs) (type_filled m z t)
 type-filled-of m false t least fs v h = ((v, tt, omega arith), h)
 type-filled-of m true t least fs v h = (v, h)
 

@@ -1,4 +1,4 @@
--- The node of a frame with its operand, and with least operands for what doesn't stand there yet.
+-- The node of a pending node with its operand, and with least operands for what doesn't stand there yet.
 use Rattle.std.proofs.Common.{◌≡◌, ℕ, zero, suc, ◌+◌, ◌-◌, ◌≤◌, max, List, [], ◌∷◌, ◌++◌, length, false, refl, sym, ◌∙◌, ap, arith, append_assoc, append-nil, length-append}
 use Rattle.ob_tree.specs.declared.tokens.TokenKind.{TokenKind}
 use Rattle.ob_tree.specs.declared.tokens.TokenKind.TheVariants as kind
@@ -9,22 +9,22 @@ use Rattle.ob_tree.specs.Spelling.{spell, spell_type, spell_spec, spell_dims, st
 use Rattle.ob_tree.specs.Valid.{IsOf}
 use Rattle.ob_tree.specs.Places.{width, width_spec, width_dims, width_type}
 use Rattle.ob_tree.specs.Paths.{begun}
-use Rattle.ob_tree.proofs.Frames.{OfType, OfMember, Frame, InParen, InIndex, InCall, InStep, InUnary, InSize, InCast, InJoin, InThen, InElse, InLength, InType, InStruct, hole, top_hole, add_argument, add_dim}
-use Rattle.ob_tree.proofs.SpecSteps.{length-stars}
-use Rattle.ob_exprs.specs.Loads.{rise, inner}
+use Rattle.ob_tree.specs.ExprStates.{OfType, OfMember, PendingNode, InParen, InIndex, InCall, InStep, InUnary, InSize, InCast, InJoin, InThen, InElse, InLength, InType, InStruct, operand_level, top_operand_level, add_argument, add_dim}
+use Rattle.ob_tree.proofs.SpecShifts.{length-stars}
+use Rattle.ob_exprs.specs.DeepestPaths.{rise, inner}
 use Rattle.ob_exprs.proofs.Begun.{begun-full, full-type, width-type}
-use Rattle.ob_exprs.proofs.Shapes.{spell_arguments_before, type_start, frame_spell, FrameOk, FrameFits}
+use Rattle.ob_exprs.proofs.Shapes.{spell_arguments_before, type_start, pending_spell, PendingOk, PendingFits}
 use Rattle.ob_exprs.proofs.Adding.{arguments-added, arguments-valid, dims-added, dims-valid}
 use Rattle.ob_exprs.proofs.Filling.{leaf, begun-argument, type-begun, type_filled, type_behind, type-filled-spell, type-filled-of, type-filled-begun}
 
--- the frames that an expression ends as an expression
-abbrev pub IsExprFrame : Frame → Type 0
+-- the pending nodes that an expression ends as an expression
+abbrev pub IsExprFrame : PendingNode → Type 0
 IsExprFrame (InLength (OfMember l n name a) ds) = ⊥
 IsExprFrame (InType m z) = ⊥
 IsExprFrame (InStruct b) = ⊥
 IsExprFrame f = Unit {0}
 
-abbrev pub fill : Frame → ExprTree → ExprTree
+abbrev pub fill : PendingNode → ExprTree → ExprTree
 fill (InParen m) e = ExprTree.Paren m e
 fill (InIndex m b) e = ExprTree.Index m b e
 fill (InCall m name es) e = ExprTree.Call m name (add_argument es e)
@@ -39,7 +39,7 @@ fill (InLength (OfType m z s n) ds) e = type_filled m z (TypeTree.TypeName s n (
 fill f e = e
 
 -- the tokens behind the operand
-abbrev pub behind : Frame → List TokenKind
+abbrev pub behind : PendingNode → List TokenKind
 behind (InParen m) = kind.Sign sign.CloseParen ∷ []
 behind (InIndex m b) = kind.Sign sign.CloseBracket ∷ []
 behind (InCall m name es) = kind.Sign sign.CloseParen ∷ []
@@ -53,7 +53,7 @@ groups t s n d b e c z = simp append_assoc
 groups3 : (a b c d : List TokenKind) → a ++ (b ++ (c ++ d)) ≡ (a ++ b) ++ (c ++ d)
 groups3 a b c d = simp append_assoc
 
-pub fill-spell : (f : Frame) (e : ExprTree) → IsExprFrame f → spell (fill f e) ≡ frame_spell f ++ (spell e ++ behind f)
+pub fill-spell : (f : PendingNode) (e : ExprTree) → IsExprFrame f → spell (fill f e) ≡ pending_spell f ++ (spell e ++ behind f)
 fill-spell (InParen m) e i = refl
 fill-spell (InIndex m b) e i = sym (append_assoc (spell b) (kind.Sign sign.OpenBracket ∷ []) (spell e ++ kind.Sign sign.CloseBracket ∷ []))
 fill-spell (InCall m name es) e i =
@@ -81,7 +81,7 @@ fill-spell (InLength (OfMember l n name a) ds) e i = absurd i
 fill-spell (InType m z) e i = absurd i
 fill-spell (InStruct b) e i = absurd i
 
-pub fill-of : (f : Frame) (e : ExprTree) (least : ℕ) (fs : List Frame) → IsExprFrame f → FrameOk f → FrameFits least fs f → IsOf (hole f) e → IsOf (top_hole least fs) (fill f e)
+pub fill-of : (f : PendingNode) (e : ExprTree) (least : ℕ) (fs : List PendingNode) → IsExprFrame f → PendingOk f → PendingFits least fs f → IsOf (operand_level f) e → IsOf (top_operand_level least fs) (fill f e)
 fill-of (InParen m) e least fs i k h v = (v.0, h)
 fill-of (InIndex m b) e least fs i k h v = ((k.0, k.1, v.0), h)
 fill-of (InCall m name es) e least fs i k h v = ((k.0, arguments-valid es e k.1 v), h)
@@ -98,7 +98,7 @@ fill-of (InType m z) e least fs i k h v = absurd i
 fill-of (InStruct b) e least fs i k h v = absurd i
 
 -- the nodes of the filled node that have begun when j tokens of the operand were read
-pub fill-begun : (f : Frame) (e : ExprTree) (j k : ℕ) → IsExprFrame f → FrameOk f → j ≤ width e → k ≡ length (frame_spell f) + j
+pub fill-begun : (f : PendingNode) (e : ExprTree) (j k : ℕ) → IsExprFrame f → PendingOk f → j ≤ width e → k ≡ length (pending_spell f) + j
     → begun (fill f e) k ≤ max (inner f) (rise f + begun e j)
 fill-begun (InParen m) e j zero i o h g = omega arith
 fill-begun (InParen m) e j (suc k) i o h g = let n : suc k - 1 ≡ j = omega arith in rw n (omega arith)

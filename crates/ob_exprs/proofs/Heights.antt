@@ -3,8 +3,8 @@ use Rattle.std.proofs.Common.{◌≡◌, ℕ, ◌+◌, ◌≤◌, max, List, [],
 use Rattle.ob_tree.specs.Trees.{ExprTree, ExprTrees, TypeTree, SpecTree, MemberTrees, ObjTree, ObjTrees, DimTrees, InitTree, InitTrees}
 use Rattle.ob_tree.specs.Places.{place, place_arguments, place_type, place_spec, place_members, place_objs, place_obj, place_dims, place_init, place_inits, width, width_name, width_type, width_spec, width_objs, width_obj, width_dims, width_init, step_place}
 use Rattle.ob_tree.specs.Paths.{height, height_arguments, height_type, height_spec, height_members, height_objs, height_obj, height_dims, height_init, height_inits}
-use Rattle.ob_tree.proofs.Frames.{Frame, InParen, InIndex, InCall, InStep, InUnary, InSize, InCast, InJoin, InThen, InElse, InLength, InType, InStruct, add_argument, add_dim, add_obj, add_member}
-use Rattle.ob_exprs.specs.Loads.{count, rise, inner, depth_of, load_stack}
+use Rattle.ob_tree.specs.ExprStates.{PendingNode, InParen, InIndex, InCall, InStep, InUnary, InSize, InCast, InJoin, InThen, InElse, InLength, InType, InStruct, add_argument, add_dim, add_obj, add_member}
+use Rattle.ob_exprs.specs.DeepestPaths.{count, rise, inner, depth_of, deepest_stack_path}
 
 module _ (lines : ℕ → ℕ) where
   mutual
@@ -96,8 +96,8 @@ pub members-height : (ms : MemberTrees) (s : SpecTree) (names : ObjTrees)
 members-height MemberTrees.NoMembers s names = omega arith
 members-height (MemberTrees.MemberLine t others ms) s names = omega (arith, members-height ms s names)
 
--- the path down to what is missing is one of the frame's paths
-pub rise-inner : (f : Frame) → rise f ≤ inner f
+-- the path down to what is missing is one of the pending node's paths
+pub rise-inner : (f : PendingNode) → rise f ≤ inner f
 rise-inner (InParen m) = omega arith
 rise-inner (InIndex m b) = omega arith
 rise-inner (InCall m name es) = omega arith
@@ -112,6 +112,6 @@ rise-inner (InLength h ds) = omega arith
 rise-inner (InType m z) = omega arith
 rise-inner (InStruct b) = omega arith
 
-pub depth-load : (fs : List Frame) → depth_of fs ≤ load_stack fs
-depth-load [] = omega arith
-depth-load (f ∷ fs) = omega (arith, rise-inner f)
+pub depth-path : (fs : List PendingNode) → depth_of fs ≤ deepest_stack_path fs
+depth-path [] = omega arith
+depth-path (f ∷ fs) = omega (arith, rise-inner f)

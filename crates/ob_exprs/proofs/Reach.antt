@@ -5,34 +5,34 @@ use Rattle.ob_tree.specs.declared.tokens.TokenKind.TheVariants as kind
 use Rattle.ob_tree.specs.declared.tokens.Sign.TheVariants as sign
 use Rattle.ob_tree.specs.Trees.{Mark, ExprTree, ExprTrees, TypeTree, SpecTree, MemberTrees, ObjTree, ObjTrees, DimTrees}
 use Rattle.ob_tree.specs.Spelling.{spell, spell_more_arguments, spell_type, spell_spec, spell_members, spell_objs, spell_more_objs, spell_obj, spell_dims, stars, infix_sign}
-use Rattle.ob_tree.specs.Levels.{left_level}
+use Rattle.ob_tree.specs.Levels.{postfix_level, left_level}
 use Rattle.ob_tree.specs.Valid.{Valid, ValidArguments, ValidType, ValidSpec, ValidMembers, ValidMemberNames, ValidMemberName, ValidDims, HasDeclarator, IsOf}
 use Rattle.ob_tree.specs.Places.{here, signed, place, place_type, place_spec, place_objs, place_obj, place_dims, width, width_type, width_spec, width_objs, width_obj, width_dims}
 use Rattle.ob_tree.specs.Paths.{begun, begun_arguments, begun_type, begun_spec, begun_members, begun_objs, begun_obj, begun_dims, height, height_arguments, height_spec, height_members, height_objs, height_obj, height_dims, height_type}
-use Rattle.ob_tree.proofs.Frames.{Head, OfType, OfMember, Body, Line, Frame, InParen, InIndex, InCall, InStep, InUnary, InSize, InCast, InJoin, InThen, InElse, InLength, InType, InStruct, State, Operand, Open, SizeOpen, Called, After, Specifier, Members, Declare, Dims, AfterSpec, add_argument, add_dim, add_obj, top_hole}
-use Rattle.ob_tree.proofs.Machine.{ended, run}
+use Rattle.ob_tree.specs.ExprStates.{Head, OfType, OfMember, StructBody, StructDeclaration, PendingNode, InParen, InIndex, InCall, InStep, InUnary, InSize, InCast, InJoin, InThen, InElse, InLength, InType, InStruct, State, BeforeOperand, Open, SizeOpen, Called, AfterOperand, Specifier, Members, Declare, Dims, AfterSpec, add_argument, add_dim, add_obj, top_operand_level}
+use Rattle.ob_tree.specs.ExprMachine.{ended, run}
 use Rattle.ob_tree.proofs.PlaceKeeps.{mark-place, valid-place, of-place, valid-name}
-use Rattle.ob_tree.proofs.Settled.{settled}
-use Rattle.ob_tree.proofs.SignSteps.{step-join, step-question, step-index, step-up, step-down, step-paren, step-argument, step-called, step-bracket, step-length, step-colon}
-use Rattle.ob_tree.proofs.Runs.{run-step}
+use Rattle.ob_tree.proofs.Unreduced.{state_behind}
+use Rattle.ob_tree.proofs.SignShifts.{shift-join, shift-question, shift-index, shift-up, shift-down, shift-paren, shift-argument, shift-called, shift-bracket, shift-length, shift-colon}
+use Rattle.ob_tree.proofs.Runs.{run-shift}
 use Rattle.ob_tree.proofs.FirstTokens.{FirstOf, BeginsOperand, BeginsSpec, first-take, first-operand, first-unary, first-spec, open-list, call-list, open-spec-list, size-spec-list, members-list}
-use Rattle.ob_tree.proofs.SpecSteps.{more_names, add_name, length-stars, obj_state, type_state, type-stars, member-stars, name-comma, name-semi}
-use Rattle.ob_tree.proofs.Through.{left-above, unary-step, type-closes, through, through-type, through-spec, through-names, through-obj, through-dims}
-use Rattle.ob_exprs.specs.Loads.{count, head_rise, head_height, line_height, depth_of, load_stack}
+use Rattle.ob_tree.proofs.SpecShifts.{more_names, add_name, length-stars, obj_state, type_state, type-stars, member-stars, name-comma, name-semi}
+use Rattle.ob_tree.proofs.Through.{left-above, unary-shift, type-closes, through, through-type, through-spec, through-names, through-obj, through-dims}
+use Rattle.ob_exprs.specs.DeepestPaths.{count, head_rise, head_height, line_height, depth_of, deepest_stack_path}
 use Rattle.ob_exprs.proofs.Begun.{begun-full, full-type, full-spec, full-names, full-name, full-dims}
-use Rattle.ob_exprs.proofs.Heights.{height-place, type-place, spec-place, objs-place, obj-place, dims-place, arguments-height, dims-height, dims-count, objs-height, members-height, depth-load}
-use Rattle.ob_exprs.proofs.Within.{Within, newest-stack, within-on, within-then, within-end, within-same, within-as, strings-reach, integer-reach, type-stars-reach, member-stars-reach, type-on-part}
-use Rattle.ob_exprs.proofs.ReachParts.{member-reach, arrow-reach, type-load, length-more, obj-on-part, reach-size, reach-body}
+use Rattle.ob_exprs.proofs.Heights.{height-place, type-place, spec-place, objs-place, obj-place, dims-place, arguments-height, dims-height, dims-count, objs-height, members-height, depth-path}
+use Rattle.ob_exprs.proofs.Within.{Within, newest_path-stack, within-on, within-then, within-end, within-same, within-as, strings-reach, integer-reach, type-stars-reach, member-stars-reach, type-on-part}
+use Rattle.ob_exprs.proofs.ReachParts.{member-reach, arrow-reach, type-path, length-more, obj-on-part, reach-size, reach-body}
 
 module _ (lines : ℕ → ℕ) (least : ℕ) where
   mutual
-    pub reach : (t : ExprTree) (k p m : ℕ) (fs : List Frame) → IsOf (top_hole least fs) t → load_stack fs ≤ m → depth_of fs + begun t k ≤ m
-        → Within m (run lines least p (take k (spell t)) (Some (Operand fs)))
-    reach t zero p m fs v l d = omega (arith, newest-stack fs)
-    reach (ExprTree.Name n name) (suc k) p m fs v l d = within-end lines least (p + 1) k m (Some (After (ExprTree.Name (here lines p) name) fs)) (omega arith)
-    reach (ExprTree.Number n value ty) (suc k) p m fs v l d = within-end lines least (p + 1) k m (Some (After (ExprTree.Number (here lines p) value ty) fs)) (omega arith)
-    reach (ExprTree.Null n) (suc k) p m fs v l d = within-end lines least (p + 1) k m (Some (After (ExprTree.Null (here lines p)) fs)) (omega arith)
-    reach (ExprTree.Eof n) (suc k) p m fs v l d = within-end lines least (p + 1) k m (Some (After (ExprTree.Eof (here lines p)) fs)) (omega arith)
+    pub reach : (t : ExprTree) (k p m : ℕ) (fs : List PendingNode) → IsOf (top_operand_level least fs) t → deepest_stack_path fs ≤ m → depth_of fs + begun t k ≤ m
+        → Within m (run lines least p (take k (spell t)) (Some (BeforeOperand fs)))
+    reach t zero p m fs v l d = omega (arith, newest_path-stack fs)
+    reach (ExprTree.Name n name) (suc k) p m fs v l d = within-end lines least (p + 1) k m (Some (AfterOperand (ExprTree.Name (here lines p) name) fs)) (omega arith)
+    reach (ExprTree.Number n value ty) (suc k) p m fs v l d = within-end lines least (p + 1) k m (Some (AfterOperand (ExprTree.Number (here lines p) value ty) fs)) (omega arith)
+    reach (ExprTree.Null n) (suc k) p m fs v l d = within-end lines least (p + 1) k m (Some (AfterOperand (ExprTree.Null (here lines p)) fs)) (omega arith)
+    reach (ExprTree.Eof n) (suc k) p m fs v l d = within-end lines least (p + 1) k m (Some (AfterOperand (ExprTree.Eof (here lines p)) fs)) (omega arith)
     reach (ExprTree.Str n []) (suc k) p m fs v l d = absurd v.0
     reach (ExprTree.Str n (s ∷ ss)) (suc k) p m fs v l d = strings-reach lines least (p + 1) k m (here lines p) (s ∷ []) ss fs l (omega arith)
     reach (ExprTree.Paren n e) (suc zero) p m fs v l d = omega arith
@@ -41,36 +41,36 @@ module _ (lines : ℕ → ℕ) (least : ℕ) where
         let f = InParen (here lines p) in
         let g : suc (suc k) - 1 ≡ suc k = omega arith in
         let d' : depth_of fs + (1 + begun e (suc k)) ≤ m = rw g at d in
-        within-then lines least (p + 1) (suc k) m (spell e) (kind.Sign sign.CloseParen) [] (Some (Open (here lines p) fs)) (settled e' (f ∷ fs)) (Some (After (ExprTree.Paren (here lines p) e') fs))
+        within-then lines least (p + 1) (suc k) m (spell e) (kind.Sign sign.CloseParen) [] (Some (Open (here lines p) fs)) (state_behind e' (f ∷ fs)) (Some (AfterOperand (ExprTree.Paren (here lines p) e') fs))
         (open-list lines least (p + 1) (here lines p) (spell e) fs (first-operand e v.0) ∙ through lines least e (p + 1) (f ∷ fs) (v.0, omega arith))
-        (step-paren least (here lines (p + 1 + width e)) e' fs (valid-place lines (p + 1) e v.0) (here lines p))
-        (λ h. within-as lines least m _ (run lines least (p + 1) (take (suc k) (spell e)) (Some (Operand (f ∷ fs))))
+        (shift-paren least (here lines (p + 1 + width e)) e' fs (valid-place lines (p + 1) e v.0) (here lines p))
+        (λ h. within-as lines least m _ (run lines least (p + 1) (take (suc k) (spell e)) (Some (BeforeOperand (f ∷ fs))))
         (open-list lines least (p + 1) (here lines p) (take (suc k) (spell e)) fs (first-take BeginsOperand k (spell e) (first-operand e v.0)))
         (reach e (suc k) (p + 1) m (f ∷ fs) (v.0, omega arith) (omega arith) (omega arith)))
-        (λ j n. within-end lines least _ j m (Some (After (ExprTree.Paren (here lines p) e') fs)) (omega (arith, height-place lines (p + 1) e, begun-full e (suc k) v.0 (omega arith))))
+        (λ j n. within-end lines least _ j m (Some (AfterOperand (ExprTree.Paren (here lines p) e') fs)) (omega (arith, height-place lines (p + 1) e, begun-full e (suc k) v.0 (omega arith))))
     reach (ExprTree.Index n b i) (suc k) p m fs v l d =
         let b' = place lines p b in
         let q = p + width b in
         let i' = place lines (q + 1) i in
         let f = InIndex (signed lines p q) b' in
-        within-then lines least p (suc k) m (spell b) (kind.Sign sign.OpenBracket) (spell i ++ kind.Sign sign.CloseBracket ∷ []) (Some (Operand fs)) (settled b' fs) (Some (Operand (f ∷ fs)))
+        within-then lines least p (suc k) m (spell b) (kind.Sign sign.OpenBracket) (spell i ++ kind.Sign sign.CloseBracket ∷ []) (Some (BeforeOperand fs)) (state_behind b' fs) (Some (BeforeOperand (f ∷ fs)))
         (through lines least b p fs (v.0.0, omega (arith, v.1, v.0.1)))
-        (step-index least (here lines q) b' fs (of-place lines p 15 b (v.0.0, v.0.1)).1 ∙ ap (λ k. Some (Operand (InIndex k b' ∷ fs))) (mark-place lines p q b))
+        (shift-index least (here lines q) b' fs (of-place lines p postfix_level b (v.0.0, v.0.1)).1 ∙ ap (λ k. Some (BeforeOperand (InIndex k b' ∷ fs))) (mark-place lines p q b))
         (λ h. reach b (suc k) p m fs (v.0.0, omega (arith, v.1, v.0.1)) l (omega arith))
         (λ j n. let g : suc k - (width b + 1) ≡ j = omega arith in
         let d' : depth_of fs + (1 + max (begun b (suc k)) (begun i j)) ≤ m = rw g at d in
         let hb : height b' ≡ begun b (suc k) = height-place lines p b ∙ sym (begun-full b (suc k) v.0.0 (omega arith)) in
-        let ls : load_stack (f ∷ fs) ≤ m = omega arith in
-        within-then lines least (q + 1) j m (spell i) (kind.Sign sign.CloseBracket) [] (Some (Operand (f ∷ fs))) (settled i' (f ∷ fs)) (Some (After (ExprTree.Index (signed lines p q) b' i') fs))
+        let ls : deepest_stack_path (f ∷ fs) ≤ m = omega arith in
+        within-then lines least (q + 1) j m (spell i) (kind.Sign sign.CloseBracket) [] (Some (BeforeOperand (f ∷ fs))) (state_behind i' (f ∷ fs)) (Some (AfterOperand (ExprTree.Index (signed lines p q) b' i') fs))
         (through lines least i (q + 1) (f ∷ fs) (v.0.2, omega arith))
-        (step-bracket least (here lines (q + 1 + width i)) i' fs (valid-place lines (q + 1) i v.0.2) (signed lines p q) b')
+        (shift-bracket least (here lines (q + 1 + width i)) i' fs (valid-place lines (q + 1) i v.0.2) (signed lines p q) b')
         (λ h. reach i j (q + 1) m (f ∷ fs) (v.0.2, omega arith) ls (omega arith))
         (λ j2 n2. let hi : height i' ≡ begun i j = height-place lines (q + 1) i ∙ sym (begun-full i j v.0.2 (omega arith)) in
-        within-end lines least _ j2 m (Some (After (ExprTree.Index (signed lines p q) b' i') fs)) (omega arith)))
+        within-end lines least _ j2 m (Some (AfterOperand (ExprTree.Index (signed lines p q) b' i') fs)) (omega arith)))
     reach (ExprTree.Call n name es) (suc zero) p m fs v l d = omega arith
     reach (ExprTree.Call n name es) (suc (suc zero)) p m fs v l d = omega arith
     reach (ExprTree.Call n name ExprTrees.NoArguments) (suc (suc (suc k))) p m fs v l d =
-        within-end lines least (p + 1 + 1 + 1) k m (Some (After (ExprTree.Call (here lines p) name ExprTrees.NoArguments) fs)) (omega arith)
+        within-end lines least (p + 1 + 1 + 1) k m (Some (AfterOperand (ExprTree.Call (here lines p) name ExprTrees.NoArguments) fs)) (omega arith)
     reach (ExprTree.Call n name (ExprTrees.Argument e es)) (suc (suc (suc k))) p m fs v l d =
         let q = p + 1 + 1 in
         let e' = place lines q e in
@@ -81,9 +81,9 @@ module _ (lines : ℕ → ℕ) (least : ℕ) where
         let d' : depth_of fs + (1 + max (begun e (suc k)) (begun_arguments es (suc k - (width e + 1)))) ≤ m = rw g at d in
         within-same lines least q m (suc k) ((spell e ++ spell_more_arguments es) ++ kind.Sign sign.CloseParen ∷ []) (spell e ++ zs) (Some (Called c name fs))
         (append_assoc (spell e) (spell_more_arguments es) (kind.Sign sign.CloseParen ∷ []))
-        (within-on lines least q (suc k) m (spell e) zs (Some (Called c name fs)) (settled e' (f ∷ fs))
+        (within-on lines least q (suc k) m (spell e) zs (Some (Called c name fs)) (state_behind e' (f ∷ fs))
         (call-list lines least q c name (spell e) fs (first-operand e v.0.1.0) ∙ through lines least e q (f ∷ fs) (v.0.1.0, v.0.1.1))
-        (λ h. within-as lines least m _ (run lines least q (take (suc k) (spell e)) (Some (Operand (f ∷ fs))))
+        (λ h. within-as lines least m _ (run lines least q (take (suc k) (spell e)) (Some (BeforeOperand (f ∷ fs))))
         (call-list lines least q c name (take (suc k) (spell e)) fs (first-take BeginsOperand k (spell e) (first-operand e v.0.1.0)))
         (reach e (suc k) q m (f ∷ fs) (v.0.1.0, v.0.1.1) (omega arith) (omega arith)))
         (λ j n. let g2 : suc k - (width e + 1) ≡ j = omega arith in
@@ -107,28 +107,28 @@ module _ (lines : ℕ → ℕ) (least : ℕ) where
         let q = p + width e in
         let g : suc k - 0 ≡ suc k = omega arith in
         let d' : depth_of fs + (1 + begun e (suc k)) ≤ m = rw g at d in
-        within-then lines least p (suc k) m (spell e) (kind.Sign sign.PlusPlus) [] (Some (Operand fs)) (settled e' fs) (Some (After (ExprTree.Step (signed lines p q) true false e') fs))
+        within-then lines least p (suc k) m (spell e) (kind.Sign sign.PlusPlus) [] (Some (BeforeOperand fs)) (state_behind e' fs) (Some (AfterOperand (ExprTree.Step (signed lines p q) true false e') fs))
         (through lines least e p fs (v.0.0, omega (arith, v.1, v.0.1)))
-        (step-up least (here lines q) e' fs (of-place lines p 15 e v.0).1 ∙ ap (λ k. Some (After (ExprTree.Step k true false e') fs)) (mark-place lines p q e))
+        (shift-up least (here lines q) e' fs (of-place lines p postfix_level e v.0).1 ∙ ap (λ k. Some (AfterOperand (ExprTree.Step k true false e') fs)) (mark-place lines p q e))
         (λ h. reach e (suc k) p m fs (v.0.0, omega (arith, v.1, v.0.1)) l (omega arith))
         (λ j n. let he : height e' ≡ begun e (suc k) = height-place lines p e ∙ sym (begun-full e (suc k) v.0.0 (omega arith)) in
-        within-end lines least _ j m (Some (After (ExprTree.Step (signed lines p q) true false e') fs)) (omega arith))
+        within-end lines least _ j m (Some (AfterOperand (ExprTree.Step (signed lines p q) true false e') fs)) (omega arith))
     reach (ExprTree.Step n true true e) (suc k) p m fs v l d =
         let e' = place lines p e in
         let q = p + width e in
         let g : suc k - 0 ≡ suc k = omega arith in
         let d' : depth_of fs + (1 + begun e (suc k)) ≤ m = rw g at d in
-        within-then lines least p (suc k) m (spell e) (kind.Sign sign.MinusMinus) [] (Some (Operand fs)) (settled e' fs) (Some (After (ExprTree.Step (signed lines p q) true true e') fs))
+        within-then lines least p (suc k) m (spell e) (kind.Sign sign.MinusMinus) [] (Some (BeforeOperand fs)) (state_behind e' fs) (Some (AfterOperand (ExprTree.Step (signed lines p q) true true e') fs))
         (through lines least e p fs (v.0.0, omega (arith, v.1, v.0.1)))
-        (step-down least (here lines q) e' fs (of-place lines p 15 e v.0).1 ∙ ap (λ k. Some (After (ExprTree.Step k true true e') fs)) (mark-place lines p q e))
+        (shift-down least (here lines q) e' fs (of-place lines p postfix_level e v.0).1 ∙ ap (λ k. Some (AfterOperand (ExprTree.Step k true true e') fs)) (mark-place lines p q e))
         (λ h. reach e (suc k) p m fs (v.0.0, omega (arith, v.1, v.0.1)) l (omega arith))
         (λ j n. let he : height e' ≡ begun e (suc k) = height-place lines p e ∙ sym (begun-full e (suc k) v.0.0 (omega arith)) in
-        within-end lines least _ j m (Some (After (ExprTree.Step (signed lines p q) true true e') fs)) (omega arith))
+        within-end lines least _ j m (Some (AfterOperand (ExprTree.Step (signed lines p q) true true e') fs)) (omega arith))
     reach (ExprTree.Unary n s e) (suc k) p m fs v l d =
         let g : suc k - 1 ≡ k = omega arith in
         let d' : depth_of fs + (1 + begun e k) ≤ m = rw g at d in
-        within-as lines least m _ (run lines least (p + 1) (take k (spell e)) (Some (Operand (InUnary (here lines p) s ∷ fs))))
-        (run-step lines least p (kind.Sign s) (take k (spell e)) (Operand fs) (Some (Operand (InUnary (here lines p) s ∷ fs))) (unary-step (here lines p) s fs v.0.0))
+        within-as lines least m _ (run lines least (p + 1) (take k (spell e)) (Some (BeforeOperand (InUnary (here lines p) s ∷ fs))))
+        (run-shift lines least p (kind.Sign s) (take k (spell e)) (BeforeOperand fs) (Some (BeforeOperand (InUnary (here lines p) s ∷ fs))) (unary-shift (here lines p) s fs v.0.0))
         (reach e k (p + 1) m (InUnary (here lines p) s ∷ fs) (v.0.1, v.0.2) (omega arith) (omega arith))
     reach (ExprTree.SizeExpr n e) (suc k) p m fs v l d =
         let g : suc k - 1 ≡ k = omega arith in
@@ -154,7 +154,7 @@ module _ (lines : ℕ → ℕ) (least : ℕ) where
         let d' : depth_of fs + (1 + max (begun_type t (suc k)) (begun e (suc (suc k) - (width_type t + 2)))) ≤ m = rw g at d in
         within-same lines least q m (suc k) (spell_type t ++ kind.Sign sign.CloseParen ∷ spell e) (xs ++ spell e) (Some (Open c fs))
         (sym (append_assoc (spell_type t) (kind.Sign sign.CloseParen ∷ []) (spell e)))
-        (within-on lines least q (suc k) m xs (spell e) (Some (Open c fs)) (Operand (f ∷ fs))
+        (within-on lines least q (suc k) m xs (spell e) (Some (Open c fs)) (BeforeOperand (f ∷ fs))
         (through-type lines least t q c false fs [] (Open c fs) v.0.0 (λ ks h. open-spec-list lines least q c ks fs h v.1))
         (λ h. reach-type t k q m c false fs (Open c fs) v.0.0 (λ ks h. open-spec-list lines least q c ks fs h v.1) l (omega arith))
         (λ j n. let g2 : suc (suc k) - (width_type t + 2) ≡ suc j = omega arith in
@@ -168,17 +168,17 @@ module _ (lines : ℕ → ℕ) (least : ℕ) where
         let x' = place lines (q + 1) x in
         let f = InThen s c' in
         let h = InElse s c' x' in
-        within-then lines least p (suc k) m (spell c) (kind.Sign sign.Question) (spell x ++ kind.Sign sign.Colon ∷ spell y) (Some (Operand fs)) (settled c' fs) (Some (Operand (f ∷ fs)))
+        within-then lines least p (suc k) m (spell c) (kind.Sign sign.Question) (spell x ++ kind.Sign sign.Colon ∷ spell y) (Some (BeforeOperand fs)) (state_behind c' fs) (Some (BeforeOperand (f ∷ fs)))
         (through lines least c p fs (v.0.0, omega (arith, v.1, v.0.1)))
-        (step-question least (here lines q) c' fs (of-place lines p 3 c (v.0.0, v.0.1)) v.1 ∙ ap (λ k. Some (Operand (InThen k c' ∷ fs))) (mark-place lines p q c))
+        (shift-question least (here lines q) c' fs (of-place lines p 3 c (v.0.0, v.0.1)) v.1 ∙ ap (λ k. Some (BeforeOperand (InThen k c' ∷ fs))) (mark-place lines p q c))
         (λ _. reach c (suc k) p m fs (v.0.0, omega (arith, v.1, v.0.1)) l (omega arith))
         (λ j n1. let g : suc k - (width c + 1) ≡ j = omega arith in
         let d' : depth_of fs + (1 + max (begun c (suc k)) (max (begun x j) (begun y (suc k - (width c + width x + 2))))) ≤ m = rw g at d in
         let hc : height c' ≡ begun c (suc k) = height-place lines p c ∙ sym (begun-full c (suc k) v.0.0 (omega arith)) in
-        let ls : load_stack (f ∷ fs) ≤ m = omega arith in
-        within-then lines least (q + 1) j m (spell x) (kind.Sign sign.Colon) (spell y) (Some (Operand (f ∷ fs))) (settled x' (f ∷ fs)) (Some (Operand (h ∷ fs)))
+        let ls : deepest_stack_path (f ∷ fs) ≤ m = omega arith in
+        within-then lines least (q + 1) j m (spell x) (kind.Sign sign.Colon) (spell y) (Some (BeforeOperand (f ∷ fs))) (state_behind x' (f ∷ fs)) (Some (BeforeOperand (h ∷ fs)))
         (through lines least x (q + 1) (f ∷ fs) (v.0.2, omega arith))
-        (step-colon least (here lines (q + 1 + width x)) x' fs (valid-place lines (q + 1) x v.0.2) s c')
+        (shift-colon least (here lines (q + 1 + width x)) x' fs (valid-place lines (q + 1) x v.0.2) s c')
         (λ _. reach x j (q + 1) m (f ∷ fs) (v.0.2, omega arith) ls (omega arith))
         (λ i n2. let g2 : suc k - (width c + width x + 2) ≡ i = omega arith in
         let d2 : depth_of fs + (1 + max (begun c (suc k)) (max (begun x j) (begun y i))) ≤ m = rw g2 at d' in
@@ -188,9 +188,9 @@ module _ (lines : ℕ → ℕ) (least : ℕ) where
         let a' = place lines p a in
         let q = p + width a in
         let f = InJoin (signed lines p q) op a' in
-        within-then lines least p (suc k) m (spell a) (kind.Sign (infix_sign op)) (spell b) (Some (Operand fs)) (settled a' fs) (Some (Operand (f ∷ fs)))
+        within-then lines least p (suc k) m (spell a) (kind.Sign (infix_sign op)) (spell b) (Some (BeforeOperand fs)) (state_behind a' fs) (Some (BeforeOperand (f ∷ fs)))
         (through lines least a p fs (v.0.1, omega (arith, v.1, v.0.2, left-above op)))
-        (step-join least (here lines q) op a' fs v.0.0 (of-place lines p (left_level op) a (v.0.1, v.0.2)) v.1 ∙ ap (λ k. Some (Operand (InJoin k op a' ∷ fs))) (mark-place lines p q a))
+        (shift-join least (here lines q) op a' fs v.0.0 (of-place lines p (left_level op) a (v.0.1, v.0.2)) v.1 ∙ ap (λ k. Some (BeforeOperand (InJoin k op a' ∷ fs))) (mark-place lines p q a))
         (λ h. reach a (suc k) p m fs (v.0.1, omega (arith, v.1, v.0.2, left-above op)) l (omega arith))
         (λ j n. let g : suc k - (width a + 1) ≡ j = omega arith in
         let d' : depth_of fs + (1 + max (begun a (suc k)) (begun b j)) ≤ m = rw g at d in
@@ -198,26 +198,26 @@ module _ (lines : ℕ → ℕ) (least : ℕ) where
         reach b j (q + 1) m (f ∷ fs) (v.0.3, v.0.4) (omega arith) (omega arith))
 
     -- the arguments behind a first one
-    reach-arguments : (es : ExprTrees) (k p m : ℕ) (c : Mark) (name : List ℕ) (done : ExprTrees) (e : ExprTree) (fs : List Frame) → ValidArguments es → Valid e
-        → load_stack fs ≤ m → depth_of fs + (1 + max (height_arguments done) (height e)) ≤ m → depth_of fs + (1 + begun_arguments es k) ≤ m
-        → Within m (run lines least p (take (suc k) (spell_more_arguments es ++ kind.Sign sign.CloseParen ∷ [])) (Some (settled e (InCall c name done ∷ fs))))
+    reach-arguments : (es : ExprTrees) (k p m : ℕ) (c : Mark) (name : List ℕ) (done : ExprTrees) (e : ExprTree) (fs : List PendingNode) → ValidArguments es → Valid e
+        → deepest_stack_path fs ≤ m → depth_of fs + (1 + max (height_arguments done) (height e)) ≤ m → depth_of fs + (1 + begun_arguments es k) ≤ m
+        → Within m (run lines least p (take (suc k) (spell_more_arguments es ++ kind.Sign sign.CloseParen ∷ [])) (Some (state_behind e (InCall c name done ∷ fs))))
     reach-arguments ExprTrees.NoArguments k p m c name done e fs v w l a d =
-        within-as lines least m _ (run lines least (p + 1) (take k []) (Some (After (ExprTree.Call c name (add_argument done e)) fs)))
-        (run-step lines least p (kind.Sign sign.CloseParen) (take k []) (settled e (InCall c name done ∷ fs)) (Some (After (ExprTree.Call c name (add_argument done e)) fs))
-        (step-called least (here lines p) e fs w c name done))
-        (within-end lines least (p + 1) k m (Some (After (ExprTree.Call c name (add_argument done e)) fs)) (omega (arith, arguments-height done e)))
+        within-as lines least m _ (run lines least (p + 1) (take k []) (Some (AfterOperand (ExprTree.Call c name (add_argument done e)) fs)))
+        (run-shift lines least p (kind.Sign sign.CloseParen) (take k []) (state_behind e (InCall c name done ∷ fs)) (Some (AfterOperand (ExprTree.Call c name (add_argument done e)) fs))
+        (shift-called least (here lines p) e fs w c name done))
+        (within-end lines least (p + 1) k m (Some (AfterOperand (ExprTree.Call c name (add_argument done e)) fs)) (omega (arith, arguments-height done e)))
     reach-arguments (ExprTrees.Argument x es) k p m c name done e fs v w l a d =
         let q = p + 1 in
         let x' = place lines q x in
         let f = InCall c name (add_argument done e) in
         let zs = spell_more_arguments es ++ kind.Sign sign.CloseParen ∷ [] in
-        let ls : load_stack (f ∷ fs) ≤ m = omega (arith, arguments-height done e) in
-        within-as lines least m _ (run lines least q (take k ((spell x ++ spell_more_arguments es) ++ kind.Sign sign.CloseParen ∷ [])) (Some (Operand (f ∷ fs))))
-        (run-step lines least p (kind.Sign sign.Comma) (take k ((spell x ++ spell_more_arguments es) ++ kind.Sign sign.CloseParen ∷ [])) (settled e (InCall c name done ∷ fs)) (Some (Operand (f ∷ fs)))
-        (step-argument least (here lines p) e fs w c name done))
-        (within-same lines least q m k ((spell x ++ spell_more_arguments es) ++ kind.Sign sign.CloseParen ∷ []) (spell x ++ zs) (Some (Operand (f ∷ fs)))
+        let ls : deepest_stack_path (f ∷ fs) ≤ m = omega (arith, arguments-height done e) in
+        within-as lines least m _ (run lines least q (take k ((spell x ++ spell_more_arguments es) ++ kind.Sign sign.CloseParen ∷ [])) (Some (BeforeOperand (f ∷ fs))))
+        (run-shift lines least p (kind.Sign sign.Comma) (take k ((spell x ++ spell_more_arguments es) ++ kind.Sign sign.CloseParen ∷ [])) (state_behind e (InCall c name done ∷ fs)) (Some (BeforeOperand (f ∷ fs)))
+        (shift-argument least (here lines p) e fs w c name done))
+        (within-same lines least q m k ((spell x ++ spell_more_arguments es) ++ kind.Sign sign.CloseParen ∷ []) (spell x ++ zs) (Some (BeforeOperand (f ∷ fs)))
         (append_assoc (spell x) (spell_more_arguments es) (kind.Sign sign.CloseParen ∷ []))
-        (within-on lines least q k m (spell x) zs (Some (Operand (f ∷ fs))) (settled x' (f ∷ fs))
+        (within-on lines least q k m (spell x) zs (Some (BeforeOperand (f ∷ fs))) (state_behind x' (f ∷ fs))
         (through lines least x q (f ∷ fs) (v.0, v.1))
         (λ h. reach x k q m (f ∷ fs) (v.0, v.1) ls (omega arith))
         (λ j n. let g : k - (width x + 1) ≡ j = omega arith in
@@ -226,9 +226,9 @@ module _ (lines : ℕ → ℕ) (least : ℕ) where
         reach-arguments es j (q + width x) m c name (add_argument done e) x' fs v.2 (valid-place lines q x v.0) l (omega (arith, arguments-height done e)) (omega arith))))
 
     -- a type name from what is held where its specifier comes, with the parenthesis behind it
-    reach-type : (t : TypeTree) (k q m : ℕ) (n : Mark) (z : Bool) (fs : List Frame) (start : State) → ValidType t
+    reach-type : (t : TypeTree) (k q m : ℕ) (n : Mark) (z : Bool) (fs : List PendingNode) (start : State) → ValidType t
         → ((ks : List TokenKind) → FirstOf BeginsSpec ks → run lines least q ks (Some start) ≡ run lines least q ks (Some (Specifier (InType n z ∷ fs))))
-        → load_stack fs ≤ m → depth_of fs + (1 + begun_type t (suc k)) ≤ m
+        → deepest_stack_path fs ≤ m → depth_of fs + (1 + begun_type t (suc k)) ≤ m
         → Within m (run lines least q (take (suc k) (spell_type t ++ kind.Sign sign.CloseParen ∷ [])) (Some start))
     reach-type (TypeTree.TypeName s i ds) k q m n z fs start v begins l d =
         let s' = place_spec lines q s in
@@ -262,10 +262,10 @@ module _ (lines : ℕ → ℕ) (least : ℕ) where
         (type-closes least (here lines (b + width_dims ds)) n z s' (0 + i) ds' fs)
         (λ h. reach-dims ds (suc x) b m (OfType n z s' (0 + i)) DimTrees.NoDims fs v.1 l (omega arith) (omega arith))
         (λ y e3. let hd : height_dims ds' ≡ begun_dims ds (suc x) = dims-place lines b ds ∙ sym (full-dims ds (suc x) v.1 (omega arith)) in
-        within-end lines least _ y m (Some (type_state n z (TypeTree.TypeName s' (0 + i) ds') fs)) (type-load m n z (TypeTree.TypeName s' (0 + i) ds') fs l (omega arith)))))))
+        within-end lines least _ y m (Some (type_state n z (TypeTree.TypeName s' (0 + i) ds') fs)) (type-path m n z (TypeTree.TypeName s' (0 + i) ds') fs l (omega arith)))))))
 
-    reach-dims : (ds : DimTrees) (k p m : ℕ) (h : Head) (done : DimTrees) (fs : List Frame) → ValidDims ds
-        → load_stack fs ≤ m → depth_of fs + max (head_height h) (head_rise h + height_dims done) ≤ m → depth_of fs + (head_rise h + (count done + begun_dims ds k)) ≤ m
+    reach-dims : (ds : DimTrees) (k p m : ℕ) (h : Head) (done : DimTrees) (fs : List PendingNode) → ValidDims ds
+        → deepest_stack_path fs ≤ m → depth_of fs + max (head_height h) (head_rise h + height_dims done) ≤ m → depth_of fs + (head_rise h + (count done + begun_dims ds k)) ≤ m
         → Within m (run lines least p (take k (spell_dims ds)) (Some (Dims h done fs)))
     reach-dims ds zero p m h done fs v l a d = omega arith
     reach-dims DimTrees.NoDims (suc k) p m h done fs v l a d = omega arith
@@ -276,20 +276,20 @@ module _ (lines : ℕ → ℕ) (least : ℕ) where
         let f = InLength h done in
         let g : suc k - 1 ≡ k = omega arith in
         let d' : depth_of fs + (head_rise h + (count done + (1 + max (begun e k) (begun_dims ds (suc k - (width e + 2)))))) ≤ m = rw g at d in
-        within-then lines least q k m (spell e) (kind.Sign sign.CloseBracket) (spell_dims ds) (Some (Operand (f ∷ fs))) (settled e' (f ∷ fs)) (Some (Dims h (add_dim done e') fs))
+        within-then lines least q k m (spell e) (kind.Sign sign.CloseBracket) (spell_dims ds) (Some (BeforeOperand (f ∷ fs))) (state_behind e' (f ∷ fs)) (Some (Dims h (add_dim done e') fs))
         (through lines least e q (f ∷ fs) (v.0, v.1))
-        (step-length least (here lines (q + width e)) e' fs (valid-place lines q e v.0) h done)
+        (shift-length least (here lines (q + width e)) e' fs (valid-place lines q e v.0) h done)
         (λ _. reach e k q m (f ∷ fs) (v.0, v.1) (omega arith) (omega arith))
         (λ j n. let g2 : suc k - (width e + 2) ≡ j = omega arith in
         let d2 : depth_of fs + (head_rise h + (count done + (1 + max (begun e k) (begun_dims ds j)))) ≤ m = rw g2 at d' in
         let he : height e' ≡ begun e k = height-place lines q e ∙ sym (begun-full e k v.0 (omega arith)) in
         reach-dims ds j (q + width e + 1) m h (add_dim done e') fs v.2 l (omega (arith, dims-height done e')) (omega (arith, dims-count done e')))
 
-    pub reach-spec : (s : SpecTree) (k p m : ℕ) (fs : List Frame) → ValidSpec s → load_stack fs ≤ m → depth_of fs + begun_spec s k ≤ m
+    pub reach-spec : (s : SpecTree) (k p m : ℕ) (fs : List PendingNode) → ValidSpec s → deepest_stack_path fs ≤ m → depth_of fs + begun_spec s k ≤ m
         → Within m (run lines least p (take k (spell_spec s)) (Some (Specifier fs)))
-    reach-spec s zero p m fs v l d = omega (arith, newest-stack fs)
-    reach-spec (SpecTree.Void f) (suc k) p m fs v l d = within-end lines least (p + 1) k m (Some (AfterSpec (SpecTree.Void p) fs)) (omega (arith, depth-load fs))
-    reach-spec (SpecTree.SizeT f) (suc k) p m fs v l d = within-end lines least (p + 1) k m (Some (AfterSpec (SpecTree.SizeT p) fs)) (omega (arith, depth-load fs))
+    reach-spec s zero p m fs v l d = omega (arith, newest_path-stack fs)
+    reach-spec (SpecTree.Void f) (suc k) p m fs v l d = within-end lines least (p + 1) k m (Some (AfterSpec (SpecTree.Void p) fs)) (omega (arith, depth-path fs))
+    reach-spec (SpecTree.SizeT f) (suc k) p m fs v l d = within-end lines least (p + 1) k m (Some (AfterSpec (SpecTree.SizeT p) fs)) (omega (arith, depth-path fs))
     reach-spec (SpecTree.Integer f ws) (suc k) p m fs v l d = integer-reach lines least p (suc k) m ws fs v l
     reach-spec (SpecTree.Tag f tag) (suc zero) p m fs v l d = omega arith
     reach-spec (SpecTree.Tag f tag) (suc (suc k)) p m fs v l d = within-end lines least (p + 1 + 1) k m (Some (AfterSpec (SpecTree.Tag p tag) fs)) (omega arith)
@@ -297,17 +297,17 @@ module _ (lines : ℕ → ℕ) (least : ℕ) where
     reach-spec (SpecTree.Struct f None ms) (suc (suc k)) p m fs v l d =
         let g : suc (suc k) - (0 + 2) ≡ k = omega arith in
         let d' : depth_of fs + (1 + begun_members ms k) ≤ m = rw g at d in
-        let b : Body = record { first = p; tag = None; members = MemberTrees.NoMembers } in
+        let b : StructBody = record { first = p; tag = None; members = MemberTrees.NoMembers } in
         reach-body lines least ms k (p + 1 + 1) m p None fs v.1 v.2 l d' (reach-members ms k (p + 1 + 1) m b fs v.2 l (omega arith) d')
     reach-spec (SpecTree.Struct f (Some tag) ms) (suc (suc zero)) p m fs v l d = omega arith
     reach-spec (SpecTree.Struct f (Some tag) ms) (suc (suc (suc k))) p m fs v l d =
         let g : suc (suc (suc k)) - (1 + 2) ≡ k = omega arith in
         let d' : depth_of fs + (1 + begun_members ms k) ≤ m = rw g at d in
-        let b : Body = record { first = p; tag = Some tag; members = MemberTrees.NoMembers } in
+        let b : StructBody = record { first = p; tag = Some tag; members = MemberTrees.NoMembers } in
         reach-body lines least ms k (p + 1 + 1 + 1) m p (Some tag) fs v.1 v.2 l d' (reach-members ms k (p + 1 + 1 + 1) m b fs v.2 l (omega arith) d')
 
-    reach-members : (ms : MemberTrees) (k p m : ℕ) (b : Body) (fs : List Frame) → ValidMembers ms
-        → load_stack fs ≤ m → depth_of fs + (1 + height_members b.members) ≤ m → depth_of fs + (1 + begun_members ms k) ≤ m
+    reach-members : (ms : MemberTrees) (k p m : ℕ) (b : StructBody) (fs : List PendingNode) → ValidMembers ms
+        → deepest_stack_path fs ≤ m → depth_of fs + (1 + height_members b.members) ≤ m → depth_of fs + (1 + begun_members ms k) ≤ m
         → Within m (run lines least p (take k (spell_members ms)) (Some (Members b fs)))
     reach-members ms zero p m b fs v l a d = omega arith
     reach-members MemberTrees.NoMembers (suc k) p m b fs v l a d = omega arith
@@ -317,7 +317,7 @@ module _ (lines : ℕ → ℕ) (least : ℕ) where
         let names' = place_objs lines q names in
         let xs = spell_objs names ++ kind.Sign sign.Semi ∷ [] in
         let w : length xs ≡ width_objs names + 1 = length-more (spell_objs names) (kind.Sign sign.Semi) in
-        let line : Line = record { body = b; spec = s'; names = ObjTrees.NoDeclarators } in
+        let line : StructDeclaration = record { body = b; spec = s'; names = ObjTrees.NoDeclarators } in
         within-on lines least p (suc k) m (spell_spec s) (spell_objs names ++ kind.Sign sign.Semi ∷ spell_members ms) (Some (Members b fs)) (AfterSpec s' (InStruct b ∷ fs))
         (members-list lines least p b (spell_spec s) fs (first-spec s v.0) ∙ through-spec lines least s p (InStruct b ∷ fs) v.0)
         (λ _. within-as lines least m _ (run lines least p (take (suc k) (spell_spec s)) (Some (Specifier (InStruct b ∷ fs))))
@@ -337,12 +337,12 @@ module _ (lines : ℕ → ℕ) (least : ℕ) where
         reach-members ms (suc i) (q + length xs) m (ended (more_names line names')) fs v.3 l (omega (arith, members-height b.members s' names')) (omega arith))))
 
     -- the names of a line of members, and its semicolon
-    reach-names : (names : ObjTrees) (k q m : ℕ) (s : SpecTree) (b : Body) (fs : List Frame) → HasDeclarator names → ValidMemberNames names
-        → load_stack fs ≤ m → depth_of fs + (1 + max (height_members b.members) (height_spec s)) ≤ m → depth_of fs + (1 + begun_objs names (suc k)) ≤ m
+    reach-names : (names : ObjTrees) (k q m : ℕ) (s : SpecTree) (b : StructBody) (fs : List PendingNode) → HasDeclarator names → ValidMemberNames names
+        → deepest_stack_path fs ≤ m → depth_of fs + (1 + max (height_members b.members) (height_spec s)) ≤ m → depth_of fs + (1 + begun_objs names (suc k)) ≤ m
         → Within m (run lines least q (take (suc k) (spell_objs names ++ kind.Sign sign.Semi ∷ [])) (Some (AfterSpec s (InStruct b ∷ fs))))
     reach-names ObjTrees.NoDeclarators k q m s b fs h v l a d = absurd h
     reach-names (ObjTrees.Declarator o os) k q m s b fs h v l a d =
-        let line : Line = record { body = b; spec = s; names = ObjTrees.NoDeclarators } in
+        let line : StructDeclaration = record { body = b; spec = s; names = ObjTrees.NoDeclarators } in
         let o' = place_obj lines q o in
         let zs = spell_more_objs os ++ kind.Sign sign.Semi ∷ [] in
         within-same lines least q m (suc k) ((spell_obj o ++ spell_more_objs os) ++ kind.Sign sign.Semi ∷ []) (spell_obj o ++ zs) (Some (AfterSpec s (InStruct b ∷ fs)))
@@ -357,12 +357,12 @@ module _ (lines : ℕ → ℕ) (least : ℕ) where
         let ho : height_obj o' ≡ begun_obj o (suc k) = obj-place lines q o ∙ sym (full-name o (suc k) v.0 (omega arith)) in
         reach-more-names os j (q + width_obj o) m line o' fs v.1 (valid-name lines q o v.0) l (omega arith) (omega arith))))
 
-    reach-more-names : (os : ObjTrees) (k p m : ℕ) (line : Line) (o : ObjTree) (fs : List Frame) → ValidMemberNames os → ValidMemberName o
-        → load_stack fs ≤ m → depth_of fs + (1 + max (line_height line) (height_obj o)) ≤ m → depth_of fs + (1 + begun_objs os k) ≤ m
+    reach-more-names : (os : ObjTrees) (k p m : ℕ) (line : StructDeclaration) (o : ObjTree) (fs : List PendingNode) → ValidMemberNames os → ValidMemberName o
+        → deepest_stack_path fs ≤ m → depth_of fs + (1 + max (line_height line) (height_obj o)) ≤ m → depth_of fs + (1 + begun_objs os k) ≤ m
         → Within m (run lines least p (take (suc k) (spell_more_objs os ++ kind.Sign sign.Semi ∷ [])) (Some (obj_state line o fs)))
     reach-more-names ObjTrees.NoDeclarators k p m line o fs v w l a d =
         within-as lines least m _ (run lines least (p + 1) (take k []) (Some (Members (ended (add_name line o)) fs)))
-        (run-step lines least p (kind.Sign sign.Semi) (take k []) (obj_state line o fs) (Some (Members (ended (add_name line o)) fs)) (name-semi least (here lines p) line o fs w))
+        (run-shift lines least p (kind.Sign sign.Semi) (take k []) (obj_state line o fs) (Some (Members (ended (add_name line o)) fs)) (name-semi least (here lines p) line o fs w))
         (within-end lines least (p + 1) k m (Some (Members (ended (add_name line o)) fs))
         (omega (arith, members-height line.body.members line.spec (add_obj line.names o), objs-height line.names o)))
     reach-more-names (ObjTrees.Declarator x os) k p m line o fs v w l a d =
@@ -370,7 +370,7 @@ module _ (lines : ℕ → ℕ) (least : ℕ) where
         let x' = place_obj lines q x in
         let zs = spell_more_objs os ++ kind.Sign sign.Semi ∷ [] in
         within-as lines least m _ (run lines least q (take k ((spell_obj x ++ spell_more_objs os) ++ kind.Sign sign.Semi ∷ [])) (Some (Declare (add_name line o) 0 fs)))
-        (run-step lines least p (kind.Sign sign.Comma) (take k ((spell_obj x ++ spell_more_objs os) ++ kind.Sign sign.Semi ∷ [])) (obj_state line o fs) (Some (Declare (add_name line o) 0 fs)) (name-comma least (here lines p) line o fs w))
+        (run-shift lines least p (kind.Sign sign.Comma) (take k ((spell_obj x ++ spell_more_objs os) ++ kind.Sign sign.Semi ∷ [])) (obj_state line o fs) (Some (Declare (add_name line o) 0 fs)) (name-comma least (here lines p) line o fs w))
         (within-same lines least q m k ((spell_obj x ++ spell_more_objs os) ++ kind.Sign sign.Semi ∷ []) (spell_obj x ++ zs) (Some (Declare (add_name line o) 0 fs))
         (append_assoc (spell_obj x) (spell_more_objs os) (kind.Sign sign.Semi ∷ []))
         (within-on lines least q k m (spell_obj x) zs (Some (Declare (add_name line o) 0 fs)) (obj_state (add_name line o) x' fs)
@@ -381,8 +381,8 @@ module _ (lines : ℕ → ℕ) (least : ℕ) where
         let hx : height_obj x' ≡ begun_obj x k = obj-place lines q x ∙ sym (full-name x k v.0 (omega arith)) in
         reach-more-names os j (q + width_obj x) m (add_name line o) x' fs v.1 (valid-name lines q x v.0) l (omega (arith, objs-height line.names o)) (omega arith))))
 
-    reach-obj : (o : ObjTree) (k q m : ℕ) (line : Line) (fs : List Frame) → ValidMemberName o
-        → load_stack fs ≤ m → depth_of fs + (1 + line_height line) ≤ m → depth_of fs + (1 + begun_obj o k) ≤ m
+    reach-obj : (o : ObjTree) (k q m : ℕ) (line : StructDeclaration) (fs : List PendingNode) → ValidMemberName o
+        → deepest_stack_path fs ≤ m → depth_of fs + (1 + line_height line) ≤ m → depth_of fs + (1 + begun_obj o k) ≤ m
         → Within m (run lines least q (take k (spell_obj o)) (Some (Declare line 0 fs)))
     reach-obj (ObjTree.Initial i name x ds n) k q m line fs v l a d = absurd v
     reach-obj (ObjTree.Bare i name x ds) k q m line fs v l a d =

@@ -9,14 +9,15 @@ use Rattle.ob_tree.specs.Spelling.{spell, spell_spec, spell_dims, stars}
 use Rattle.ob_tree.specs.Valid.{ValidDims, IsOf}
 use Rattle.ob_tree.specs.Places.{width, width_spec, width_type, width_obj}
 use Rattle.ob_tree.specs.Paths.{node_with, begun, height}
-use Rattle.ob_tree.proofs.Frames.{Head, OfType, OfMember, Line, Frame, InParen, InCall, InSize, InType, InStruct, State, Operand, Open, Size, SizeOpen, Called, Select, After, Specifier, StructWord, Members, Declare, Dims, AfterSpec, top_hole}
-use Rattle.ob_tree.proofs.SpecSteps.{length-stars}
-use Rattle.ob_exprs.specs.Loads.{depth_of, line_height, load_stack, load}
+use Rattle.ob_tree.specs.ExprStates.{Head, OfType, OfMember, StructDeclaration, PendingNode, InParen, InCall, InSize, InType, InStruct, State, BeforeOperand, Open, Size, SizeOpen, Called, Select, AfterOperand, Specifier, StructWord, Members, Declare, Dims, AfterSpec, top_operand_level}
+use Rattle.ob_tree.proofs.SpecShifts.{length-stars}
+use Rattle.ob_exprs.specs.DeepestPaths.{depth_of, line_height, deepest_stack_path, deepest_path}
 use Rattle.ob_exprs.proofs.Begun.{begun-full, full-type, full-spec, full-name, width-type, width-bare}
-use Rattle.ob_exprs.proofs.Heights.{depth-load}
+use Rattle.ob_exprs.proofs.Heights.{depth-path}
 use Rattle.ob_exprs.proofs.Shapes.{line_spell, type_start, stack_spell, state_spell, LineOk, HeadOk, TakesSpec, HeadFits, Stands, StateOk}
 use Rattle.ob_exprs.proofs.Filling.{leaf, x, valid-x, struct_with, struct-begun, struct-spell, struct-valid, type_filled, type_behind, type-filled-spell, type-filled-of, type-filled-begun}
 use Rattle.ob_exprs.proofs.Complete.{Completes, complete-expr, complete-spec}
+use Rattle.ob_tree.specs.Levels.{primary_level, postfix_level}
 
 node-most : (k n : ℕ) → node_with k n ≤ 1 + n
 node-most zero n = omega arith
@@ -24,18 +25,18 @@ node-most (suc k) n = omega arith
 
 module _ (least m : ℕ) where
   -- an operand that hasn't begun, a specifier that hasn't
-  operand-whole : (fs : List Frame) → Stands least fs → top_hole least fs ≤ 16 → load_stack fs ≤ m → Completes least m (stack_spell fs)
+  operand-whole : (fs : List PendingNode) → Stands least fs → top_operand_level least fs ≤ primary_level → deepest_stack_path fs ≤ m → Completes least m (stack_spell fs)
   operand-whole fs st h l =
       subst (Completes least m) (append-nil (stack_spell fs))
-      (complete-expr least m fs leaf [] (kind.Word word.Null ∷ []) st (tt, h) refl l (omega (arith, depth-load fs)))
+      (complete-expr least m fs leaf [] (kind.Word word.Null ∷ []) st (tt, h) refl l (omega (arith, depth-path fs)))
 
-  spec-whole : (fs : List Frame) → Stands least fs → TakesSpec least fs → load_stack fs ≤ m → Completes least m (stack_spell fs)
+  spec-whole : (fs : List PendingNode) → Stands least fs → TakesSpec least fs → deepest_stack_path fs ≤ m → Completes least m (stack_spell fs)
   spec-whole fs st h l =
       subst (Completes least m) (append-nil (stack_spell fs))
-      (complete-spec least m fs (SpecTree.Void 0) [] (kind.Word word.Void ∷ []) st h tt refl l (omega (arith, depth-load fs)))
+      (complete-spec least m fs (SpecTree.Void 0) [] (kind.Word word.Void ∷ []) st h tt refl l (omega (arith, depth-path fs)))
 
-  select-whole : (n : Mark) (arrow : Bool) (b : ExprTree) (fs : List Frame) → Stands least fs → top_hole least fs ≤ 15 → IsOf 15 b
-      → load_stack fs ≤ m → depth_of fs + (1 + height b) ≤ m → Completes least m (state_spell (Select n arrow b fs))
+  select-whole : (n : Mark) (arrow : Bool) (b : ExprTree) (fs : List PendingNode) → Stands least fs → top_operand_level least fs ≤ postfix_level → IsOf postfix_level b
+      → deepest_stack_path fs ≤ m → depth_of fs + (1 + height b) ≤ m → Completes least m (state_spell (Select n arrow b fs))
   select-whole n false b fs st h v l d =
       let k = length (spell b ++ kind.Sign sign.Dot ∷ []) in
       let w : k ≡ width b + 1 = length-append (spell b) (kind.Sign sign.Dot ∷ []) in
@@ -49,8 +50,8 @@ module _ (least m : ℕ) where
       (sym (append_assoc (spell b) (kind.Sign sign.Arrow ∷ []) (kind.Name x ∷ []))) l
       (omega (arith, node-most k (begun b k), begun-full b k v.0 (omega arith)))
 
-  declare-whole : (line : Line) (n : ℕ) (fs : List Frame) → Stands least fs → TakesSpec least fs → LineOk line
-      → load_stack fs ≤ m → depth_of fs + (1 + max (line_height line) n) ≤ m → Completes least m (state_spell (Declare line n fs))
+  declare-whole : (line : StructDeclaration) (n : ℕ) (fs : List PendingNode) → Stands least fs → TakesSpec least fs → LineOk line
+      → deepest_stack_path fs ≤ m → depth_of fs + (1 + max (line_height line) n) ≤ m → Completes least m (state_spell (Declare line n fs))
   declare-whole line n fs st h v l d =
       let o = ObjTree.Bare n x 0 DimTrees.NoDims in
       let ends = kind.Name x ∷ (kind.Sign sign.Semi ∷ (kind.Sign sign.CloseBrace ∷ [])) in
@@ -62,8 +63,8 @@ module _ (least m : ℕ) where
       groups : (a b c d : List TokenKind) → a ++ ((b ++ c) ++ d) ≡ (a ++ b) ++ (c ++ d)
       groups a b c d = simp append_assoc
 
-  dims-whole : (h : Head) (ds : DimTrees) (fs : List Frame) → Stands least fs → HeadFits least fs h → HeadOk h → ValidDims ds
-      → load (Dims h ds fs) ≤ m → Completes least m (state_spell (Dims h ds fs))
+  dims-whole : (h : Head) (ds : DimTrees) (fs : List PendingNode) → Stands least fs → HeadFits least fs h → HeadOk h → ValidDims ds
+      → deepest_path (Dims h ds fs) ≤ m → Completes least m (state_spell (Dims h ds fs))
   dims-whole (OfType n z s i) ds fs st f v w l =
       let t = TypeTree.TypeName s i ds in
       let read = (type_start z ++ (spell_spec s ++ stars i)) ++ spell_dims ds in
@@ -100,14 +101,14 @@ module _ (least m : ℕ) where
       groups : (a b c d e : List TokenKind) → a ++ ((b ++ (c ++ d)) ++ e) ≡ ((a ++ (b ++ c)) ++ d) ++ e
       groups a b c d e = simp append_assoc
 
-  pub state-whole : (s : State) → StateOk least s → load s ≤ m → Completes least m (state_spell s)
-  state-whole (Operand fs) ok l = operand-whole fs ok.0 (omega (arith, ok.1)) (omega arith)
+  pub state-whole : (s : State) → StateOk least s → deepest_path s ≤ m → Completes least m (state_spell s)
+  state-whole (BeforeOperand fs) ok l = operand-whole fs ok.0 (omega (arith, ok.1)) (omega arith)
   state-whole (Open n fs) ok l = operand-whole (InParen n ∷ fs) (tt, omega (arith, ok.1), ok.0) (omega arith) (omega arith)
   state-whole (Size n fs) ok l = operand-whole (InSize n ∷ fs) (tt, ok.1, ok.0) (omega arith) (omega arith)
   state-whole (SizeOpen n q fs) ok l = spec-whole (InType n true ∷ fs) (tt, ok.1, ok.0) tt (omega arith)
   state-whole (Called n name fs) ok l = operand-whole (InCall n name ExprTrees.NoArguments ∷ fs) ((ok.2, tt), ok.1, ok.0) (omega arith) (omega arith)
   state-whole (Select n arrow b fs) ok l = select-whole n arrow b fs ok.0 ok.1 ok.2 (omega arith) (omega arith)
-  state-whole (After e fs) ok l =
+  state-whole (AfterOperand e fs) ok l =
       complete-expr least m fs e (spell e) [] ok.0 ok.1 (sym (append-nil (spell e))) (omega arith) (omega (arith, begun-full e (width e) ok.1.0 (omega arith)))
   state-whole (Specifier fs) ok l = spec-whole fs ok.0 ok.1 (omega arith)
   state-whole (StructWord f fs) ok l =

@@ -15,9 +15,9 @@ use Rattle.ob_tree.specs.declared.expressions.TypeName.{TypeName', roll-TypeName
 use Rattle.ob_tree.specs.Trees.{ExprTree, ExprTrees, TypeTree, SpecTree, MemberTrees, ObjTree, ObjTrees, DimTrees}
 use Rattle.ob_tree.specs.Paths.{height, height_arguments, height_spec, height_members, height_objs, height_obj, height_dims}
 use Rattle.ob_tree.specs.ExpressionView.{marked, expr_tree, node_tree, argument_row, spec_tree, spec_node_tree, type_tree, member_row, obj_row, obj_tree, obj_trees, held_init, dim_row, dim_trees}
-use Rattle.ob_tree.proofs.Frames.{add_argument, add_dim, add_obj, add_member}
+use Rattle.ob_tree.specs.ExprStates.{add_argument, add_dim, add_obj, add_member}
 use Rattle.ob_exprs.specs.Lists.{argument_trees, member_trees}
-use Rattle.ob_exprs.specs.Loads.{count}
+use Rattle.ob_exprs.specs.DeepestPaths.{count}
 use Rattle.ob_exprs.proofs.Heights.{arguments-height, dims-height, dims-count, objs-height, members-height}
 
 row-arguments : (n : _) (row : Row_of-Expr n) → argument_row row ≡ argument_trees (items-the_row-Expr n row)

@@ -1,15 +1,15 @@
--- What a sign behind a whole operand leads to, where it is none of a postfix expression: first the frames that it
+-- What a sign behind a whole operand leads to, where it is none of a postfix expression: first the pending nodes that it
 -- closes are closed.
 use Rattle.std.specs.Prelude.{ℕ, List, [], ◌∷◌, Bool, false, true, Option, Some, None, cond, nat_lt}
 use Rattle.ob_tree.specs.declared.tokens.Sign.{Sign}
 use Rattle.ob_tree.specs.declared.tokens.Sign.TheVariants as sign
 use Rattle.ob_tree.specs.Trees.{Infix, ExprTree}
-use Rattle.ob_tree.specs.Levels.{binary_level, is_assign}
-use Rattle.ob_tree.proofs.Frames.{Frame, InParen, InIndex, InCall, InThen, InLength, State}
-use Rattle.ob_tree.proofs.Machine.{join_to, then_to, comma_to, close_paren, close_bracket, colon_to}
+use Rattle.ob_tree.specs.Levels.{assign_level, cond_level, binary_level, is_assign}
+use Rattle.ob_tree.specs.ExprStates.{PendingNode, InParen, InIndex, InCall, InThen, InLength, State}
+use Rattle.ob_tree.specs.ExprMachine.{join_to, then_to, comma_to, close_paren, close_bracket, colon_to}
 use Rattle.ob_exprs.specs.declared.reader.Reader.{Reader}
-use Rattle.ob_exprs.specs.declared.reader.Answer.{Answer}
-use Rattle.ob_exprs.specs.declared.reader.Answer.TheVariants as answer
+use Rattle.ob_exprs.specs.declared.reader.Shift.{Shift}
+use Rattle.ob_exprs.specs.declared.reader.Shift.TheVariants as outcome
 
 -- a sign of a postfix expression
 abbrev pub is_postfix : Sign → Bool
@@ -21,16 +21,16 @@ is_postfix sign.PlusPlus = true
 is_postfix sign.MinusMinus = true
 is_postfix s = false
 
--- the nonterminal above which the sign closes frames
+-- the nonterminal above which the sign closes pending nodes
 abbrev pub closing_level : Sign → ℕ
-closing_level sign.Question = 2
-closing_level s = cond (is_assign s) 1 (binary_level s)
+closing_level sign.Question = cond_level
+closing_level s = cond (is_assign s) assign_level (binary_level s)
 
-abbrev pub operator_behind : (least p : ℕ) → Sign → ExprTree × List Frame → Option State
+abbrev pub operator_behind : (least p : ℕ) → Sign → ExprTree × List PendingNode → Option State
 operator_behind least p s r = cond (is_assign s) (join_to least (Infix.Assign s) p r)
     (cond (nat_lt 0 (binary_level s)) (join_to least (Infix.Binary s) p r) None)
 
-abbrev pub behind : (least p : ℕ) → Sign → ExprTree × List Frame → Option State
+abbrev pub behind : (least p : ℕ) → Sign → ExprTree × List PendingNode → Option State
 behind least p sign.Question r = then_to least p r
 behind least p sign.Comma r = comma_to least p r.0 r.1
 behind least p sign.CloseParen r = close_paren r.0 r.1
@@ -48,25 +48,25 @@ is_string (ExprTree.Str m ss) = true
 is_string e = false
 
 -- what the newest node is that a comma, a closing parenthesis, a closing bracket or a colon ends a part of
-abbrev pub in_call : List Frame → Bool
+abbrev pub in_call : List PendingNode → Bool
 in_call (InCall m name es ∷ fs) = true
 in_call fs = false
 
-abbrev pub in_paren : List Frame → Bool
+abbrev pub in_paren : List PendingNode → Bool
 in_paren (InParen m ∷ fs) = true
 in_paren (InCall m name es ∷ fs) = true
 in_paren fs = false
 
-abbrev pub in_bracket : List Frame → Bool
+abbrev pub in_bracket : List PendingNode → Bool
 in_bracket (InIndex m b ∷ fs) = true
 in_bracket (InLength h ds ∷ fs) = true
 in_bracket fs = false
 
-abbrev pub in_then : List Frame → Bool
+abbrev pub in_then : List PendingNode → Bool
 in_then (InThen m c ∷ fs) = true
 in_then fs = false
 
 -- the answer where nothing whole was read before
-abbrev pub answered : Option Reader → Answer
-answered (Some r) = answer.Goes r
-answered None = answer.Stuck
+abbrev pub shifted : Option Reader → Shift
+shifted (Some r) = outcome.Shifted r
+shifted None = outcome.Rejected

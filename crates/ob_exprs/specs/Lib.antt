@@ -1,7 +1,7 @@
-pub mod Loads
+pub mod DeepestPaths
 pub mod Lists
 pub mod View
 pub mod Reading
 pub mod Behind
 pub mod Parsed
-pub mod Reads
+pub mod ReadTokens

@@ -10,7 +10,7 @@ use Rattle.ob_tree.specs.Trees.{ExprTree, SpecTree}
 use Rattle.ob_tree.specs.ExpressionView.{expr_tree, spec_tree}
 use Rattle.ob_tree.specs.Places.{PlacedExpr, PlacedSpec}
 use Rattle.ob_tree.specs.Fronts.{kinds, lines, within, FrontExpr, DeepFrontExpr, IsExpr, FrontSpec, DeepFrontSpec, IsSpec}
-use Rattle.ob_tree.specs.Answers.{Verdict, Whole, NoTree, TooDeep, IsVerdict}
+use Rattle.ob_tree.specs.Verdicts.{Verdict, Whole, NoTree, TooDeep, IsVerdict}
 
 abbrev pub IsExprVerdict : List Token → (from depth level : ℕ) → Verdict ExprTree → Type 0
 IsExprVerdict ts from depth level v =

@@ -2,9 +2,9 @@ ghost use Rattle.std.specs.Prelude.{◌≡◌, ◌≤◌, ◌<◌, ◌∷◌, If
 ghost use Rattle.ob_tree.specs.Fronts.{greatest_path};
 ghost use Rattle.ob_tree.specs.Paths.{height_dims};
 ghost use Rattle.ob_tree.specs.ExpressionView.{dim_trees};
-ghost use Rattle.ob_tree.proofs.Frames.{Declare, Dims as dims_state, InLength, Operand};
-ghost use Rattle.ob_tree.proofs.Machine.{after_dims as after_dims_of, close_type as close_type_of, declare as declare_of, end_line as end_line_of, ended as ended_of, more_stars as more_stars_of, named as named_of, next_name as next_name_of};
-ghost use Rattle.ob_exprs.specs.Loads.{depth_of, load};
+ghost use Rattle.ob_tree.specs.ExprStates.{Declare, Dims as dims_state, InLength, BeforeOperand};
+ghost use Rattle.ob_tree.specs.ExprMachine.{after_dims as after_dims_of, close_type as close_type_of, declare as declare_of, end_line as end_line_of, ended as ended_of, more_stars as more_stars_of, named as named_of, next_name as next_name_of};
+ghost use Rattle.ob_exprs.specs.DeepestPaths.{depth_of, deepest_path};
 ghost use Rattle.ob_exprs.specs.Reading.{Leads, held};
 ghost use Rattle.ob_exprs.specs.View.{body_of, head_of, line_of};
 
@@ -13,7 +13,7 @@ use crate::measured::Dims;
 use crate::nodes::size_of_type;
 use crate::reader::Reader;
 use crate::stack::{Stack, push};
-use crate::state::{Body, Head, Line, Mode, Waiting};
+use crate::state::{Head, Mode, PendingNode, StructBody, StructDeclaration};
 use ob_base::{NoMemory, Text, let_go};
 use ob_tree::{Sign, TokenKind};
 use std::alloc::Global;
@@ -21,7 +21,7 @@ use std::alloc::Global;
 /// A star behind a row of brackets.
 #[tactic(auto, using(crate::proofs::Rows::star_more, crate::proofs::Rows::star_none))]
 fn more_stars(stack: Stack, head: Head, dims: Dims) -> Option<Reader>
-    requires { load (dims_state (head_of head) (dim_trees dims.items.items) (held stack)) ≤ greatest_path }
+    requires { deepest_path (dims_state (head_of head) (dim_trees dims.items.items) (held stack)) ≤ greatest_path }
     ensures { Leads result (more_stars_of (head_of head) (dim_trees dims.items.items) (held stack)) }
 {
     if 0 < dims.count {
@@ -60,7 +60,7 @@ fn close_type(
     head: Head,
     dims: Dims,
 ) -> Result<Option<Reader>, NoMemory>
-    requires small { load (dims_state (head_of head) (dim_trees dims.items.items) (held stack)) ≤ greatest_path }
+    requires small { deepest_path (dims_state (head_of head) (dim_trees dims.items.items) (held stack)) ≤ greatest_path }
     requires shallow { depth_of (held stack) ≤ 1000 }
     ensures { IfOk result (λ o. Leads o (close_type_of (head_of head) (dim_trees dims.items.items) (held stack))) }
 {
@@ -73,16 +73,16 @@ fn close_type(
         } => {
             let name = type_name(spec, stars, dims);
             if sized {
-                let whole = size_of_type(alloc, place, name)?;
+                let operand = size_of_type(alloc, place, name)?;
                 return Ok(Some(Reader {
                     stack,
-                    mode: Mode::After(whole),
+                    mode: Mode::AfterOperand(operand),
                 }));
             }
-            let stack = push(stack, Waiting::Cast(place, name))?;
+            let stack = push(stack, PendingNode::Cast(place, name))?;
             Ok(Some(Reader {
                 stack,
-                mode: Mode::Operand,
+                mode: Mode::BeforeOperand,
             }))
         }
         other => {
@@ -93,28 +93,34 @@ fn close_type(
 }
 
 /// The line with one name more.
-fn line_with_name(line: Line, stars: u32, name: Text, at: u32, dims: Dims) -> Result<Line, NoMemory>
+fn line_with_name(
+    line: StructDeclaration,
+    stars: u32,
+    name: Text,
+    at: u32,
+    dims: Dims,
+) -> Result<StructDeclaration, NoMemory>
     requires low { height_dims (dim_trees dims.items.items) < 1000 }
     requires few { stars < 1000 }
     ensures { IfOk result (λ l. line_of l ≡ named_of (line_of line) stars name at (dim_trees dims.items.items)) }
 {
-    let Line { body, spec, names } = line;
+    let StructDeclaration { body, spec, names } = line;
     let (names, (body, spec)) = add_name(names, declarator(stars, name, at, dims), (body, spec))?;
-    Ok(Line { body, spec, names })
+    Ok(StructDeclaration { body, spec, names })
 }
 
 /// The structure with one line more.
-fn body_with_line(line: Line) -> Result<Body, NoMemory>
+fn body_with_line(line: StructDeclaration) -> Result<StructBody, NoMemory>
     ensures { IfOk result (λ b. body_of b ≡ ended_of (line_of line)) }
 {
-    let Line { body, spec, names } = line;
-    let Body {
+    let StructDeclaration { body, spec, names } = line;
+    let StructBody {
         first,
         tag,
         members,
     } = body;
     let (members, tag) = add_members(members, spec, names, tag)?;
-    Ok(Body {
+    Ok(StructBody {
         first,
         tag,
         members,
@@ -123,7 +129,7 @@ fn body_with_line(line: Line) -> Result<Body, NoMemory>
 
 /// A comma behind a member.
 fn next_name(stack: Stack, head: Head, dims: Dims) -> Result<Option<Reader>, NoMemory>
-    requires { load (dims_state (head_of head) (dim_trees dims.items.items) (held stack)) ≤ greatest_path }
+    requires { deepest_path (dims_state (head_of head) (dim_trees dims.items.items) (held stack)) ≤ greatest_path }
     ensures { IfOk result (λ o. Leads o (next_name_of (head_of head) (dim_trees dims.items.items) (held stack))) }
 {
     match head {
@@ -148,7 +154,7 @@ fn next_name(stack: Stack, head: Head, dims: Dims) -> Result<Option<Reader>, NoM
 
 /// A semicolon behind a line of members.
 fn end_line(stack: Stack, head: Head, dims: Dims) -> Result<Option<Reader>, NoMemory>
-    requires { load (dims_state (head_of head) (dim_trees dims.items.items) (held stack)) ≤ greatest_path }
+    requires { deepest_path (dims_state (head_of head) (dim_trees dims.items.items) (held stack)) ≤ greatest_path }
     ensures { IfOk result (λ o. Leads o (end_line_of (head_of head) (dim_trees dims.items.items) (held stack))) }
 {
     match head {
@@ -174,14 +180,14 @@ fn end_line(stack: Stack, head: Head, dims: Dims) -> Result<Option<Reader>, NoMe
 
 /// An opening bracket behind a row of brackets.
 fn open_bracket(stack: Stack, head: Head, dims: Dims) -> Result<Option<Reader>, NoMemory>
-    requires small { load (dims_state (head_of head) (dim_trees dims.items.items) (held stack)) ≤ greatest_path }
+    requires small { deepest_path (dims_state (head_of head) (dim_trees dims.items.items) (held stack)) ≤ greatest_path }
     requires shallow { depth_of (held stack) ≤ 1000 }
-    ensures { IfOk result (λ o. Leads o (Some (Operand (InLength (head_of head) (dim_trees dims.items.items) ∷ held stack)))) }
+    ensures { IfOk result (λ o. Leads o (Some (BeforeOperand (InLength (head_of head) (dim_trees dims.items.items) ∷ held stack)))) }
 {
-    let stack = push(stack, Waiting::Length(head, dims))?;
+    let stack = push(stack, PendingNode::Length(head, dims))?;
     Ok(Some(Reader {
         stack,
-        mode: Mode::Operand,
+        mode: Mode::BeforeOperand,
     }))
 }
 
@@ -193,7 +199,7 @@ pub fn after_dims(
     dims: Dims,
     kind: &TokenKind,
 ) -> Result<Option<Reader>, NoMemory>
-    requires small { load (dims_state (head_of head) (dim_trees dims.items.items) (held stack)) ≤ greatest_path }
+    requires small { deepest_path (dims_state (head_of head) (dim_trees dims.items.items) (held stack)) ≤ greatest_path }
     requires shallow { depth_of (held stack) ≤ 1000 }
     ensures { IfOk result (λ o. Leads o (after_dims_of kind.now (head_of head) (dim_trees dims.items.items) (held stack))) }
 {
@@ -214,12 +220,12 @@ pub fn after_dims(
 pub fn declare(
     alloc: Global,
     stack: Stack,
-    line: Line,
+    line: StructDeclaration,
     stars: u32,
     kind: &TokenKind,
     at: u32,
 ) -> Result<Option<Reader>, NoMemory>
-    requires { load (Declare (line_of line) stars (held stack)) ≤ greatest_path }
+    requires { deepest_path (Declare (line_of line) stars (held stack)) ≤ greatest_path }
     ensures { IfOk result (λ o. Leads o (declare_of at kind.now (line_of line) stars (held stack))) }
 {
     match kind {

@@ -1,5 +1,5 @@
 ghost use Rattle.std.specs.Prelude.{◌≡◌};
-ghost use Rattle.ob_exprs.specs.Loads.{floor};
+ghost use Rattle.ob_exprs.specs.DeepestPaths.{level_number};
 
 // The nonterminals of expressions by number: each stands where one of a lower number may stand. Those
 // of the binary operators are 3 to 12.
@@ -45,7 +45,7 @@ pub enum Level {
 impl Level {
     /// The number of the nonterminal.
     pub fn number(self) -> u32
-        ensures { result ≡ floor self }
+        ensures { result ≡ level_number self }
     {
         match self {
             Level::Comma => EXPR,

@@ -2,12 +2,12 @@ ghost use Rattle.std.specs.Prelude.{◌≡◌, ◌<◌, ◌+◌, max, IfOk};
 ghost use Rattle.ob_tree.specs.Trees.{ExprTrees, TypeTree, MemberTrees, ObjTree, ObjTrees, DimTrees};
 ghost use Rattle.ob_tree.specs.Paths.{height as height_of, height_arguments, height_spec, height_members, height_objs, height_obj, height_dims};
 ghost use Rattle.ob_tree.specs.ExpressionView.{expr_tree, spec_tree, type_tree, obj_tree, obj_trees, dim_trees};
-ghost use Rattle.ob_tree.proofs.Frames.{add_argument as add_argument_of, add_dim as add_dim_of, add_obj as add_obj_of, add_member as add_member_of};
+ghost use Rattle.ob_tree.specs.ExprStates.{add_argument as add_argument_of, add_dim as add_dim_of, add_obj as add_obj_of, add_member as add_member_of};
 ghost use Rattle.ob_exprs.specs.Lists.{argument_trees, member_trees};
-ghost use Rattle.ob_exprs.specs.Loads.{count as count_of};
+ghost use Rattle.ob_exprs.specs.DeepestPaths.{count as count_of};
 
 use crate::measured::{
-    Arguments, Dims, MeasuredDeclarator, MeasuredSpec, MeasuredType, Members, Names, Whole,
+    Arguments, Dims, MeasuredDeclarator, MeasuredSpec, MeasuredType, Members, Names, Operand,
 };
 use ob_base::{NoMemory, Text, push_with};
 use ob_tree::{Dim, Expr, MemberDecl, ObjDecl, Spec, TypeName};
@@ -35,7 +35,7 @@ pub fn no_arguments(alloc: Global) -> Arguments
 #[tactic(auto, using(crate::proofs::Views::arguments_pushed, crate::proofs::Views::arguments_pushed_height))]
 pub fn add_argument<K: Drop>(
     arguments: Arguments,
-    argument: Whole,
+    argument: Operand,
     kept: K,
 ) -> Result<(Arguments, K), NoMemory>
     ensures added { IfOk result (λ r. argument_trees r.0.items.items ≡ add_argument_of (argument_trees arguments.items.items) (expr_tree argument.expr.value)) }
@@ -44,7 +44,7 @@ pub fn add_argument<K: Drop>(
 {
     let height = arguments.height.max(argument.height);
     let Arguments { items, .. } = arguments;
-    let Whole { expr, .. } = argument;
+    let Operand { expr, .. } = argument;
     let mut items = items;
     let kept = push_with(&mut items, Box::into_inner(expr), kept)?;
     Ok((Arguments { items, height }, kept))
@@ -62,7 +62,7 @@ pub fn no_dims(alloc: Global) -> Dims
 
 /// The brackets with one pair more, round this length, and what the caller goes on with.
 #[tactic(auto, using(crate::proofs::Views::dims_pushed, crate::proofs::Views::dims_pushed_height, crate::proofs::Views::dims_pushed_count))]
-pub fn add_dim<K: Drop>(dims: Dims, length: Whole, kept: K) -> Result<(Dims, K), NoMemory>
+pub fn add_dim<K: Drop>(dims: Dims, length: Operand, kept: K) -> Result<(Dims, K), NoMemory>
     requires low { height_of (expr_tree length.expr.value) < 1000 }
     requires few { count_of (dim_trees dims.items.items) < 1000 }
     ensures added { IfOk result (λ r. dim_trees r.0.items.items ≡ add_dim_of (dim_trees dims.items.items) (expr_tree length.expr.value)) }
@@ -71,7 +71,7 @@ pub fn add_dim<K: Drop>(dims: Dims, length: Whole, kept: K) -> Result<(Dims, K),
     let height = dims.height.max(dims.count + (1 + length.height));
     let count = dims.count + 1;
     let Dims { items, .. } = dims;
-    let Whole { expr, .. } = length;
+    let Operand { expr, .. } = length;
     let mut items = items;
     let dim = Dim {
         length: Some(Box::into_inner(expr)),

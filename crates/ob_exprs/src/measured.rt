@@ -3,13 +3,13 @@ ghost use Rattle.ob_tree.specs.Levels.{level_of};
 ghost use Rattle.ob_tree.specs.Paths.{height as height_of, height_arguments, height_type, height_spec, height_members, height_obj, height_objs, height_dims};
 ghost use Rattle.ob_tree.specs.ExpressionView.{expr_tree, spec_tree, type_tree, obj_tree, obj_trees, dim_trees};
 ghost use Rattle.ob_exprs.specs.Lists.{argument_trees, member_trees};
-ghost use Rattle.ob_exprs.specs.Loads.{count as count_of};
+ghost use Rattle.ob_exprs.specs.DeepestPaths.{count as count_of};
 
 use ob_tree::{Dim, Expr, MemberDecl, ObjDecl, Spec, TypeName};
 
 /// A whole operand, with the number of nodes on its longest path and the number of its nonterminal.
 #[derive(Drop)]
-pub struct Whole {
+pub struct Operand {
     pub expr: Box<Expr>,
     pub height: u32,
     pub level: u32,

@@ -3,21 +3,21 @@ ghost use Rattle.ob_tree.specs.Trees.{ExprTree};
 ghost use Rattle.ob_tree.specs.Levels.{infix_level, level_of as level_of_tree};
 ghost use Rattle.ob_tree.specs.Paths.{height as height_of, height_type, height_arguments};
 ghost use Rattle.ob_tree.specs.ExpressionView.{expr_tree, type_tree};
-ghost use Rattle.ob_tree.proofs.Machine.{selected as selected_of};
+ghost use Rattle.ob_tree.specs.ExprMachine.{selected as selected_of};
 ghost use Rattle.ob_exprs.specs.Lists.{argument_trees};
 ghost use Rattle.ob_exprs.specs.View.{mark, infix_of};
 
 use crate::level::{CAST, COND, POSTFIX, PRIMARY, UNARY};
-use crate::measured::{Arguments, MeasuredType, Whole};
+use crate::measured::{Arguments, MeasuredType, Operand};
 use crate::operators::level_of_operator;
-use crate::state::{Operator, Place};
+use crate::state::{ExprMark, Operator};
 use ob_base::{NoMemory, Text, boxed, listed};
 use ob_tree::{Expr, ExprNode, Sign};
 use ob_words::IntType;
 use std::alloc::Global;
 
 /// An expression at a place.
-fn placed(place: Place, node: ExprNode) -> Expr
+fn placed(place: ExprMark, node: ExprNode) -> Expr
     ensures { result ≡ record { first = place.first; at = place.at; line = place.line; node = node } }
 {
     Expr {
@@ -30,29 +30,29 @@ fn placed(place: Place, node: ExprNode) -> Expr
 
 /// The operand of this expression, which is of this nonterminal and has this many nodes on its
 /// longest path.
-fn whole(alloc: Global, expr: Expr, height: u32, level: u32) -> Result<Whole, NoMemory>
+fn measured(alloc: Global, expr: Expr, height: u32, level: u32) -> Result<Operand, NoMemory>
     requires high { height ≡ height_of (expr_tree expr) }
     requires kind { level ≡ level_of_tree (expr_tree expr) }
     ensures { IfOk result (λ w. w.expr.value ≡ expr) }
 {
     let expr = boxed(alloc, expr)?;
-    Ok(Whole {
+    Ok(Operand {
         expr,
         height,
         level,
     })
 }
 
-pub fn name(alloc: Global, place: Place, name: Text) -> Result<Whole, NoMemory>
+pub fn name(alloc: Global, place: ExprMark, name: Text) -> Result<Operand, NoMemory>
     ensures { IfOk result (λ w. expr_tree w.expr.value ≡ ExprTree.Name (mark place) name) }
 {
-    whole(alloc, placed(place, ExprNode::Name(name)), 1, PRIMARY)
+    measured(alloc, placed(place, ExprNode::Name(name)), 1, PRIMARY)
 }
 
-pub fn number(alloc: Global, place: Place, value: i128, ty: IntType) -> Result<Whole, NoMemory>
+pub fn number(alloc: Global, place: ExprMark, value: i128, ty: IntType) -> Result<Operand, NoMemory>
     ensures { IfOk result (λ w. expr_tree w.expr.value ≡ ExprTree.Number (mark place) value ty) }
 {
-    whole(
+    measured(
         alloc,
         placed(place, ExprNode::Number { value, ty }),
         1,
@@ -60,38 +60,38 @@ pub fn number(alloc: Global, place: Place, value: i128, ty: IntType) -> Result<W
     )
 }
 
-pub fn null(alloc: Global, place: Place) -> Result<Whole, NoMemory>
+pub fn null(alloc: Global, place: ExprMark) -> Result<Operand, NoMemory>
     ensures { IfOk result (λ w. expr_tree w.expr.value ≡ ExprTree.Null (mark place)) }
 {
-    whole(alloc, placed(place, ExprNode::Null), 1, PRIMARY)
+    measured(alloc, placed(place, ExprNode::Null), 1, PRIMARY)
 }
 
-pub fn eof(alloc: Global, place: Place) -> Result<Whole, NoMemory>
+pub fn eof(alloc: Global, place: ExprMark) -> Result<Operand, NoMemory>
     ensures { IfOk result (λ w. expr_tree w.expr.value ≡ ExprTree.Eof (mark place)) }
 {
-    whole(alloc, placed(place, ExprNode::Eof), 1, PRIMARY)
+    measured(alloc, placed(place, ExprNode::Eof), 1, PRIMARY)
 }
 
 /// String literals side by side.
-pub fn strings(alloc: Global, place: Place, texts: Vec<Text>) -> Result<Whole, NoMemory>
+pub fn strings(alloc: Global, place: ExprMark, texts: Vec<Text>) -> Result<Operand, NoMemory>
     ensures { IfOk result (λ w. expr_tree w.expr.value ≡ ExprTree.Str (mark place) texts.items) }
 {
-    whole(alloc, placed(place, ExprNode::Str(texts)), 1, PRIMARY)
+    measured(alloc, placed(place, ExprNode::Str(texts)), 1, PRIMARY)
 }
 
-pub fn string(alloc: Global, place: Place, text: Text) -> Result<Whole, NoMemory>
+pub fn string(alloc: Global, place: ExprMark, text: Text) -> Result<Operand, NoMemory>
     ensures { IfOk result (λ w. expr_tree w.expr.value ≡ ExprTree.Str (mark place) (text ∷ [])) }
 {
     let texts = listed(alloc, text)?;
     strings(alloc, place, texts)
 }
 
-pub fn paren(alloc: Global, place: Place, inner: Whole) -> Result<Whole, NoMemory>
+pub fn paren(alloc: Global, place: ExprMark, inner: Operand) -> Result<Operand, NoMemory>
     requires { height_of (expr_tree inner.expr.value) < 1000 }
     ensures { IfOk result (λ w. expr_tree w.expr.value ≡ ExprTree.Paren (mark place) (expr_tree inner.expr.value)) }
 {
-    let Whole { expr, height, .. } = inner;
-    whole(
+    let Operand { expr, height, .. } = inner;
+    measured(
         alloc,
         placed(place, ExprNode::Paren(expr)),
         height + 1,
@@ -99,15 +99,20 @@ pub fn paren(alloc: Global, place: Place, inner: Whole) -> Result<Whole, NoMemor
     )
 }
 
-pub fn index(alloc: Global, place: Place, base: Whole, index: Whole) -> Result<Whole, NoMemory>
+pub fn index(
+    alloc: Global,
+    place: ExprMark,
+    base: Operand,
+    index: Operand,
+) -> Result<Operand, NoMemory>
     requires low { height_of (expr_tree base.expr.value) < 1000 }
     requires small { height_of (expr_tree index.expr.value) < 1000 }
     ensures { IfOk result (λ w. expr_tree w.expr.value ≡ ExprTree.Index (mark place) (expr_tree base.expr.value) (expr_tree index.expr.value)) }
 {
     let height = base.height.max(index.height) + 1;
-    let Whole { expr: base, .. } = base;
-    let Whole { expr: index, .. } = index;
-    whole(
+    let Operand { expr: base, .. } = base;
+    let Operand { expr: index, .. } = index;
+    measured(
         alloc,
         placed(place, ExprNode::Index(base, index)),
         height,
@@ -115,7 +120,7 @@ pub fn index(alloc: Global, place: Place, base: Whole, index: Whole) -> Result<W
     )
 }
 
-fn call_node(place: Place, name: Text, items: Vec<Expr>) -> Expr
+fn call_node(place: ExprMark, name: Text, items: Vec<Expr>) -> Expr
     ensures { expr_tree result ≡ ExprTree.Call (mark place) name (argument_trees items.items) }
 {
     placed(place, ExprNode::Call(name, items))
@@ -123,47 +128,47 @@ fn call_node(place: Place, name: Text, items: Vec<Expr>) -> Expr
 
 pub fn call(
     alloc: Global,
-    place: Place,
+    place: ExprMark,
     name: Text,
     arguments: Arguments,
-) -> Result<Whole, NoMemory>
+) -> Result<Operand, NoMemory>
     requires { height_arguments (argument_trees arguments.items.items) < 1000 }
     ensures { IfOk result (λ w. expr_tree w.expr.value ≡ ExprTree.Call (mark place) name (argument_trees arguments.items.items)) }
 {
     let Arguments { items, height, .. } = arguments;
-    whole(alloc, call_node(place, name, items), height + 1, PRIMARY)
+    measured(alloc, call_node(place, name, items), height + 1, PRIMARY)
 }
 
 /// A member of a structure or, where `arrow`, of what a pointer points to.
 pub fn selected(
     alloc: Global,
-    place: Place,
+    place: ExprMark,
     arrow: bool,
-    base: Whole,
+    base: Operand,
     name: Text,
-) -> Result<Whole, NoMemory>
+) -> Result<Operand, NoMemory>
     requires { height_of (expr_tree base.expr.value) < 1000 }
     ensures { IfOk result (λ w. expr_tree w.expr.value ≡ selected_of (mark place) arrow (expr_tree base.expr.value) name) }
 {
-    let Whole { expr, height, .. } = base;
+    let Operand { expr, height, .. } = base;
     let node = if arrow {
         ExprNode::Arrow(expr, name)
     } else {
         ExprNode::Member(expr, name)
     };
-    whole(alloc, placed(place, node), height + 1, POSTFIX)
+    measured(alloc, placed(place, node), height + 1, POSTFIX)
 }
 
 pub fn step_behind(
     alloc: Global,
-    place: Place,
+    place: ExprMark,
     down: bool,
-    operand: Whole,
-) -> Result<Whole, NoMemory>
+    operand: Operand,
+) -> Result<Operand, NoMemory>
     requires { height_of (expr_tree operand.expr.value) < 1000 }
     ensures { IfOk result (λ w. expr_tree w.expr.value ≡ ExprTree.Step (mark place) Bool.true down (expr_tree operand.expr.value)) }
 {
-    let Whole {
+    let Operand {
         expr: e,
         height,
         ..
@@ -173,19 +178,19 @@ pub fn step_behind(
         down,
         e,
     };
-    whole(alloc, placed(place, node), height + 1, POSTFIX)
+    measured(alloc, placed(place, node), height + 1, POSTFIX)
 }
 
 pub fn step_before(
     alloc: Global,
-    place: Place,
+    place: ExprMark,
     down: bool,
-    operand: Whole,
-) -> Result<Whole, NoMemory>
+    operand: Operand,
+) -> Result<Operand, NoMemory>
     requires { height_of (expr_tree operand.expr.value) < 1000 }
     ensures { IfOk result (λ w. expr_tree w.expr.value ≡ ExprTree.Step (mark place) Bool.false down (expr_tree operand.expr.value)) }
 {
-    let Whole {
+    let Operand {
         expr: e,
         height,
         ..
@@ -195,15 +200,20 @@ pub fn step_before(
         down,
         e,
     };
-    whole(alloc, placed(place, node), height + 1, UNARY)
+    measured(alloc, placed(place, node), height + 1, UNARY)
 }
 
-pub fn unary(alloc: Global, place: Place, sign: Sign, operand: Whole) -> Result<Whole, NoMemory>
+pub fn unary(
+    alloc: Global,
+    place: ExprMark,
+    sign: Sign,
+    operand: Operand,
+) -> Result<Operand, NoMemory>
     requires { height_of (expr_tree operand.expr.value) < 1000 }
     ensures { IfOk result (λ w. expr_tree w.expr.value ≡ ExprTree.Unary (mark place) sign (expr_tree operand.expr.value)) }
 {
-    let Whole { expr, height, .. } = operand;
-    whole(
+    let Operand { expr, height, .. } = operand;
+    measured(
         alloc,
         placed(place, ExprNode::Unary(sign, expr)),
         height + 1,
@@ -211,12 +221,12 @@ pub fn unary(alloc: Global, place: Place, sign: Sign, operand: Whole) -> Result<
     )
 }
 
-pub fn size_of_expr(alloc: Global, place: Place, operand: Whole) -> Result<Whole, NoMemory>
+pub fn size_of_expr(alloc: Global, place: ExprMark, operand: Operand) -> Result<Operand, NoMemory>
     requires { height_of (expr_tree operand.expr.value) < 1000 }
     ensures { IfOk result (λ w. expr_tree w.expr.value ≡ ExprTree.SizeExpr (mark place) (expr_tree operand.expr.value)) }
 {
-    let Whole { expr, height, .. } = operand;
-    whole(
+    let Operand { expr, height, .. } = operand;
+    measured(
         alloc,
         placed(place, ExprNode::SizeExpr(expr)),
         height + 1,
@@ -224,12 +234,12 @@ pub fn size_of_expr(alloc: Global, place: Place, operand: Whole) -> Result<Whole
     )
 }
 
-pub fn size_of_type(alloc: Global, place: Place, name: MeasuredType) -> Result<Whole, NoMemory>
+pub fn size_of_type(alloc: Global, place: ExprMark, name: MeasuredType) -> Result<Operand, NoMemory>
     requires { height_type (type_tree name.name) < 1000 }
     ensures { IfOk result (λ w. expr_tree w.expr.value ≡ ExprTree.SizeType (mark place) (type_tree name.name)) }
 {
     let MeasuredType { name, height, .. } = name;
-    whole(
+    measured(
         alloc,
         placed(place, ExprNode::SizeType(name)),
         height + 1,
@@ -239,18 +249,18 @@ pub fn size_of_type(alloc: Global, place: Place, name: MeasuredType) -> Result<W
 
 pub fn cast(
     alloc: Global,
-    place: Place,
+    place: ExprMark,
     name: MeasuredType,
-    operand: Whole,
-) -> Result<Whole, NoMemory>
+    operand: Operand,
+) -> Result<Operand, NoMemory>
     requires low { height_type (type_tree name.name) < 1000 }
     requires small { height_of (expr_tree operand.expr.value) < 1000 }
     ensures { IfOk result (λ w. expr_tree w.expr.value ≡ ExprTree.Cast (mark place) (type_tree name.name) (expr_tree operand.expr.value)) }
 {
     let height = name.height.max(operand.height) + 1;
     let MeasuredType { name, .. } = name;
-    let Whole { expr, .. } = operand;
-    whole(
+    let Operand { expr, .. } = operand;
+    measured(
         alloc,
         placed(place, ExprNode::Cast(name, expr)),
         height,
@@ -260,11 +270,11 @@ pub fn cast(
 
 pub fn conditional(
     alloc: Global,
-    place: Place,
-    test: Whole,
-    then: Whole,
-    other: Whole,
-) -> Result<Whole, NoMemory>
+    place: ExprMark,
+    test: Operand,
+    then: Operand,
+    other: Operand,
+) -> Result<Operand, NoMemory>
     requires low { height_of (expr_tree test.expr.value) < 1000 }
     requires middle { height_of (expr_tree then.expr.value) < 1000 }
     requires small { height_of (expr_tree other.expr.value) < 1000 }
@@ -272,10 +282,10 @@ pub fn conditional(
         ≡ ExprTree.Cond (mark place) (expr_tree test.expr.value) (expr_tree then.expr.value) (expr_tree other.expr.value)) }
 {
     let height = test.height.max(then.height.max(other.height)) + 1;
-    let Whole { expr: test, .. } = test;
-    let Whole { expr: then, .. } = then;
-    let Whole { expr: other, .. } = other;
-    whole(
+    let Operand { expr: test, .. } = test;
+    let Operand { expr: then, .. } = then;
+    let Operand { expr: other, .. } = other;
+    measured(
         alloc,
         placed(place, ExprNode::Cond(test, then, other)),
         height,
@@ -283,7 +293,7 @@ pub fn conditional(
     )
 }
 
-fn joined(place: Place, operator: Operator, left: Box<Expr>, right: Box<Expr>) -> Expr
+fn joined(place: ExprMark, operator: Operator, left: Box<Expr>, right: Box<Expr>) -> Expr
     ensures { expr_tree result ≡ ExprTree.Join (mark place) (infix_of operator) (expr_tree left.value) (expr_tree right.value) }
 {
     let node = match operator {
@@ -296,19 +306,19 @@ fn joined(place: Place, operator: Operator, left: Box<Expr>, right: Box<Expr>) -
 
 pub fn join(
     alloc: Global,
-    place: Place,
+    place: ExprMark,
     operator: Operator,
-    left: Whole,
-    right: Whole,
-) -> Result<Whole, NoMemory>
+    left: Operand,
+    right: Operand,
+) -> Result<Operand, NoMemory>
     requires low { height_of (expr_tree left.expr.value) < 1000 }
     requires small { height_of (expr_tree right.expr.value) < 1000 }
     ensures { IfOk result (λ w. expr_tree w.expr.value ≡ ExprTree.Join (mark place) (infix_of operator) (expr_tree left.expr.value) (expr_tree right.expr.value)) }
 {
     let height = left.height.max(right.height) + 1;
-    let Whole { expr: left, .. } = left;
-    let Whole { expr: right, .. } = right;
-    whole(
+    let Operand { expr: left, .. } = left;
+    let Operand { expr: right, .. } = right;
+    measured(
         alloc,
         joined(place, operator, left, right),
         height,

@@ -1,36 +1,36 @@
 ghost use Rattle.std.specs.Prelude.{◌≡◌, ◌≤◌, ◌∷◌, [], IfOk, Some};
 ghost use Rattle.ob_tree.specs.Trees.{SpecTree};
-ghost use Rattle.ob_tree.proofs.Frames.{AfterSpec, Operand};
-ghost use Rattle.ob_tree.proofs.Machine.{is_spec_word, operand as operand_of, operand_sign as operand_sign_of, operand_word as operand_word_of, spec_word as spec_word_of, specifier as specifier_of};
-ghost use Rattle.ob_exprs.specs.Loads.{depth_of, rise as rise_of};
+ghost use Rattle.ob_tree.specs.ExprStates.{AfterSpec, BeforeOperand};
+ghost use Rattle.ob_tree.specs.ExprMachine.{is_spec_word, operand as operand_of, operand_sign as operand_sign_of, operand_word as operand_word_of, spec_word as spec_word_of, specifier as specifier_of};
+ghost use Rattle.ob_exprs.specs.DeepestPaths.{depth_of, rise as rise_of};
 ghost use Rattle.ob_exprs.specs.Reading.{Leads, held};
-ghost use Rattle.ob_exprs.specs.View.{frame_of, mark};
+ghost use Rattle.ob_exprs.specs.View.{pending_of, mark};
 
 use crate::nodes::{eof, name, null, number, string};
 use crate::operators::is_unary;
 use crate::reader::Reader;
 use crate::spec_nodes::{integer, size_t, void};
 use crate::stack::{Stack, push};
-use crate::state::{Mode, Place, Waiting};
+use crate::state::{ExprMark, Mode, PendingNode};
 use ob_base::{NoMemory, listed};
 use ob_tree::{Keyword, Sign, TokenKind};
 use std::alloc::Global;
 
 /// Pushes a node that waits for an operand.
-pub fn waits(stack: Stack, waiting: Waiting) -> Result<Option<Reader>, NoMemory>
+pub fn waits(stack: Stack, pending: PendingNode) -> Result<Option<Reader>, NoMemory>
     requires shallow { depth_of (held stack) ≤ 2000 }
-    requires narrow { rise_of (frame_of waiting) ≤ 1000 }
-    ensures { IfOk result (λ o. Leads o (Some (Operand (frame_of waiting ∷ held stack)))) }
+    requires narrow { rise_of (pending_of pending) ≤ 1000 }
+    ensures { IfOk result (λ o. Leads o (Some (BeforeOperand (pending_of pending ∷ held stack)))) }
 {
-    let stack = push(stack, waiting)?;
+    let stack = push(stack, pending)?;
     Ok(Some(Reader {
         stack,
-        mode: Mode::Operand,
+        mode: Mode::BeforeOperand,
     }))
 }
 
 /// A sign that begins an operand.
-pub fn operand_sign(stack: Stack, sign: Sign, place: Place) -> Result<Option<Reader>, NoMemory>
+pub fn operand_sign(stack: Stack, sign: Sign, place: ExprMark) -> Result<Option<Reader>, NoMemory>
     requires { depth_of (held stack) ≤ 2000 }
     ensures { IfOk result (λ o. Leads o (operand_sign_of (mark place) sign (held stack))) }
 {
@@ -39,11 +39,11 @@ pub fn operand_sign(stack: Stack, sign: Sign, place: Place) -> Result<Option<Rea
             stack,
             mode: Mode::Open(place),
         })),
-        Sign::PlusPlus => waits(stack, Waiting::Step(place, false)),
-        Sign::MinusMinus => waits(stack, Waiting::Step(place, true)),
+        Sign::PlusPlus => waits(stack, PendingNode::Step(place, false)),
+        Sign::MinusMinus => waits(stack, PendingNode::Step(place, true)),
         _ => {
             if is_unary(sign) {
-                waits(stack, Waiting::Unary(place, sign))
+                waits(stack, PendingNode::Unary(place, sign))
             } else {
                 Ok(None)
             }
@@ -56,13 +56,13 @@ pub fn operand_word(
     alloc: Global,
     stack: Stack,
     word: Keyword,
-    place: Place,
+    place: ExprMark,
 ) -> Result<Option<Reader>, NoMemory>
     ensures { IfOk result (λ o. Leads o (operand_word_of (mark place) word (held stack))) }
 {
     let mode = match word {
-        Keyword::Null => Mode::After(null(alloc, place)?),
-        Keyword::Eof => Mode::After(eof(alloc, place)?),
+        Keyword::Null => Mode::AfterOperand(null(alloc, place)?),
+        Keyword::Eof => Mode::AfterOperand(eof(alloc, place)?),
         Keyword::Sizeof => Mode::Size(place),
         _ => return Ok(None),
     };
@@ -74,12 +74,12 @@ pub fn operand(
     alloc: Global,
     stack: Stack,
     kind: &TokenKind,
-    place: Place,
+    place: ExprMark,
 ) -> Result<Option<Reader>, NoMemory>
     requires { depth_of (held stack) ≤ 2000 }
     ensures { IfOk result (λ o. Leads o (operand_of (mark place) kind.now (held stack))) }
 {
-    let whole = match kind {
+    let operand = match kind {
         TokenKind::Word(word) => return operand_word(alloc, stack, *word, place),
         TokenKind::Sign(sign) => return operand_sign(stack, *sign, place),
         TokenKind::Name(text) => name(alloc, place, text.copy(alloc)?)?,
@@ -88,7 +88,7 @@ pub fn operand(
     };
     Ok(Some(Reader {
         stack,
-        mode: Mode::After(whole),
+        mode: Mode::AfterOperand(operand),
     }))
 }
 

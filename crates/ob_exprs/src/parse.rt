@@ -2,7 +2,7 @@ ghost use Rattle.std.specs.Prelude.{◌≡◌, ◌≤◌, ◌^◌, length};
 ghost use Rattle.std.specs.List.{All};
 ghost use Rattle.ob_tree.specs.Fronts.{greatest_path};
 ghost use Rattle.ob_tree.specs.Valid.{IsOfSource};
-ghost use Rattle.ob_exprs.specs.Loads.{floor};
+ghost use Rattle.ob_exprs.specs.DeepestPaths.{level_number};
 ghost use Rattle.ob_exprs.specs.Parsed.{ParsedExpr, ParsedSpec};
 
 use crate::level::{Level, NO_LEVEL};
@@ -31,11 +31,11 @@ pub fn parse_expr(
     requires of_source { All (λ t. IsOfSource t.kind) tokens.now.items }
     requires from_in { from ≤ length tokens.now.items }
     requires depth_in { depth ≤ greatest_path }
-    ensures { ParsedExpr tokens.now.items from depth (floor level) result }
+    ensures { ParsedExpr tokens.now.items from depth (level_number level) result }
 {
     let start = Reader {
         stack: empty(alloc),
-        mode: Mode::Operand,
+        mode: Mode::BeforeOperand,
     };
     let (reader, place) = read(alloc, tokens.as_slice(), from, depth, level.number(), start)?;
     match finish(alloc, reader)? {

@@ -1,20 +1,20 @@
 ghost use Rattle.std.specs.Prelude.{◌≡◌, ◌≤◌, ◌^◌, [], IfOk, length, option_map};
 ghost use Rattle.ob_tree.specs.Fronts.{greatest_path};
 ghost use Rattle.ob_tree.specs.ExpressionView.{expr_tree, spec_tree};
-ghost use Rattle.ob_tree.proofs.Frames.{After, AfterSpec, Operand};
-ghost use Rattle.ob_tree.proofs.Machine.{finish as finish_of, finish_spec as finish_spec_of};
-ghost use Rattle.ob_exprs.specs.Loads.{load};
+ghost use Rattle.ob_tree.specs.ExprStates.{AfterOperand, AfterSpec, BeforeOperand};
+ghost use Rattle.ob_tree.specs.ExprMachine.{finish as finish_of, finish_spec as finish_spec_of};
+ghost use Rattle.ob_exprs.specs.DeepestPaths.{deepest_path};
 ghost use Rattle.ob_exprs.specs.Reading.{held, state_of};
-ghost use Rattle.ob_exprs.specs.Reads.{Reads, reading};
+ghost use Rattle.ob_exprs.specs.ReadTokens.{Leaves, reading};
 
 use crate::level::EXPR;
-use crate::measured::{MeasuredSpec, Whole};
-use crate::newest::newest;
-use crate::reader::{Answer, Reader};
+use crate::measured::{MeasuredSpec, Operand};
+use crate::paths::newest_path;
+use crate::reader::{Reader, Shift};
 use crate::reduce::reduce;
+use crate::shifts::shift;
 use crate::stack::{Stack, empty};
-use crate::state::{Mode, Place};
-use crate::steps::step;
+use crate::state::{ExprMark, Mode};
 use ob_base::{NoMemory, let_go};
 use ob_tree::{Expr, Spec, SyntaxFault, Token};
 use std::alloc::Global;
@@ -24,22 +24,22 @@ const LIMIT: usize = 256;
 
 /// What stands for no whole tree.
 fn nothing(alloc: Global) -> Reader
-    ensures { state_of result ≡ Operand [] }
+    ensures { state_of result ≡ BeforeOperand [] }
 {
     Reader {
         stack: empty(alloc),
-        mode: Mode::Operand,
+        mode: Mode::BeforeOperand,
     }
 }
 
 /// The expression of the last operand, where nothing waits behind it.
-fn finish_operand(alloc: Global, stack: Stack, whole: Whole) -> Result<Option<Expr>, NoMemory>
-    requires { load (After (expr_tree whole.expr.value) (held stack)) ≤ greatest_path }
-    ensures { IfOk result (λ o. option_map expr_tree o ≡ finish_of (After (expr_tree whole.expr.value) (held stack))) }
+fn finish_operand(alloc: Global, stack: Stack, operand: Operand) -> Result<Option<Expr>, NoMemory>
+    requires { deepest_path (AfterOperand (expr_tree operand.expr.value) (held stack)) ≤ greatest_path }
+    ensures { IfOk result (λ o. option_map expr_tree o ≡ finish_of (AfterOperand (expr_tree operand.expr.value) (held stack))) }
 {
-    let (stack, whole) = reduce(alloc, stack, whole, EXPR)?;
-    let Whole { expr, .. } = whole;
-    if stack.waiting.is_empty() {
+    let (stack, operand) = reduce(alloc, stack, operand, EXPR)?;
+    let Operand { expr, .. } = operand;
+    if stack.pending.is_empty() {
         Ok(Some(Box::into_inner(expr)))
     } else {
         Ok(None)
@@ -48,12 +48,12 @@ fn finish_operand(alloc: Global, stack: Stack, whole: Whole) -> Result<Option<Ex
 
 /// The whole expression, where nothing waits.
 pub fn finish(alloc: Global, reader: Reader) -> Result<Option<Expr>, NoMemory>
-    requires { load (state_of reader) ≤ greatest_path }
+    requires { deepest_path (state_of reader) ≤ greatest_path }
     ensures { IfOk result (λ o. option_map expr_tree o ≡ finish_of (state_of reader)) }
 {
     let Reader { stack, mode } = reader;
     match mode {
-        Mode::After(whole) => finish_operand(alloc, stack, whole),
+        Mode::AfterOperand(operand) => finish_operand(alloc, stack, operand),
         other => {
             let_go(other);
             Ok(None)
@@ -66,7 +66,7 @@ fn finish_specifier(stack: Stack, spec: MeasuredSpec) -> Option<Spec>
     ensures { option_map spec_tree result ≡ finish_spec_of (AfterSpec (spec_tree spec.spec) (held stack)) }
 {
     let MeasuredSpec { spec, .. } = spec;
-    if stack.waiting.is_empty() {
+    if stack.pending.is_empty() {
         Some(spec)
     } else {
         let_go(spec);
@@ -88,7 +88,7 @@ pub fn finish_spec(reader: Reader) -> Option<Spec>
     }
 }
 
-/// Reads as far as some tree goes on so, from `start` on.
+/// Leaves as far as some tree goes on so, from `start` on.
 pub fn read(
     alloc: Global,
     tokens: &[Token],
@@ -100,25 +100,25 @@ pub fn read(
     requires few { length tokens.now ≤ 2 ^ 20 }
     requires from_in { from ≤ length tokens.now }
     requires depth_in { depth ≤ greatest_path }
-    requires nothing_yet { load (state_of start) ≤ 0 }
-    ensures reads { Reads (reading tokens.now least depth from (state_of start)) result }
+    requires nothing_yet { deepest_path (state_of start) ≤ 0 }
+    ensures reads { Leaves (reading tokens.now least depth from (state_of start)) result }
     ensures within { IfOk result (λ r. r.1 ≤ length tokens.now) }
 {
     let mut reader = start;
     for place in from..tokens.len() {
         let token = &tokens[place];
         let at = place as u32;
-        let here = Place {
+        let here = ExprMark {
             first: at,
             at,
             line: token.span.line,
         };
-        match step(alloc, reader, &token.kind, here, least)? {
-            Answer::Goes(next) => reader = next,
-            Answer::Stays(rest) => return Ok((rest, place)),
-            Answer::Stuck => return Ok((nothing(alloc), place)),
+        match shift(alloc, reader, &token.kind, here, least)? {
+            Shift::Shifted(next) => reader = next,
+            Shift::Ended(rest) => return Ok((rest, place)),
+            Shift::Rejected => return Ok((nothing(alloc), place)),
         }
-        if LIMIT - (depth as usize) < newest(&reader) {
+        if LIMIT - (depth as usize) < newest_path(&reader) {
             let_go(reader);
             return Err(SyntaxFault::TooDeep(at));
         }

@@ -10,10 +10,10 @@ pub struct Reader {
 
 /// What one token leads to.
 #[derive(Drop)]
-pub enum Answer {
-    Goes(Reader),
+pub enum Shift {
+    Shifted(Reader),
     /// No tree goes on so. What was read stands for the same whole tree as before, if for any.
-    Stays(Reader),
+    Ended(Reader),
     /// No tree goes on so, and what was read is no whole tree.
-    Stuck,
+    Rejected,
 }

@@ -2,30 +2,30 @@ ghost use Rattle.std.specs.Prelude.{◌≡◌, ◌≤◌, ◌<◌, IfOk};
 ghost use Rattle.ob_tree.specs.Fronts.{greatest_path};
 ghost use Rattle.ob_tree.specs.Paths.{height as height_of};
 ghost use Rattle.ob_tree.specs.ExpressionView.{expr_tree};
-ghost use Rattle.ob_tree.proofs.Frames.{After, close as close_of, reduce as reduce_of};
-ghost use Rattle.ob_exprs.specs.Loads.{depth_of, inner as inner_of, load};
-ghost use Rattle.ob_exprs.specs.View.{closed_top, frame_of, frames};
+ghost use Rattle.ob_tree.specs.ExprStates.{AfterOperand, close as close_of, reduce as reduce_of};
+ghost use Rattle.ob_exprs.specs.DeepestPaths.{depth_of, inner as inner_of, deepest_path};
+ghost use Rattle.ob_exprs.specs.View.{closed_top, pending_of, pending_nodes};
 
-use crate::measured::Whole;
+use crate::measured::Operand;
 use crate::nodes::{cast, conditional, join, size_of_expr, step_before, unary};
-use crate::stack::{Stack, pop, top_grip};
-use crate::state::Waiting;
+use crate::stack::{Stack, pop, top_right_precedence};
+use crate::state::PendingNode;
 use ob_base::{NoMemory, let_go};
 use std::alloc::Global;
 
-/// The node of a waiting one with its last operand; where a token ends it, the operand.
-fn close(alloc: Global, waiting: Waiting, operand: Whole) -> Result<Whole, NoMemory>
-    requires low { inner_of (frame_of waiting) < 1000 }
+/// The node of a pending one with its last operand; where a token ends it, the operand.
+fn close(alloc: Global, pending: PendingNode, operand: Operand) -> Result<Operand, NoMemory>
+    requires low { inner_of (pending_of pending) < 1000 }
     requires small { height_of (expr_tree operand.expr.value) < 1000 }
-    ensures { IfOk result (λ w. expr_tree w.expr.value ≡ close_of (frame_of waiting) (expr_tree operand.expr.value)) }
+    ensures { IfOk result (λ w. expr_tree w.expr.value ≡ close_of (pending_of pending) (expr_tree operand.expr.value)) }
 {
-    match waiting {
-        Waiting::Step(place, down) => step_before(alloc, place, down, operand),
-        Waiting::Unary(place, sign) => unary(alloc, place, sign, operand),
-        Waiting::Size(place) => size_of_expr(alloc, place, operand),
-        Waiting::Cast(place, name) => cast(alloc, place, name, operand),
-        Waiting::Join(place, operator, left) => join(alloc, place, operator, left, operand),
-        Waiting::Else(place, test, then) => conditional(alloc, place, test, then, operand),
+    match pending {
+        PendingNode::Step(place, down) => step_before(alloc, place, down, operand),
+        PendingNode::Unary(place, sign) => unary(alloc, place, sign, operand),
+        PendingNode::Size(place) => size_of_expr(alloc, place, operand),
+        PendingNode::Cast(place, name) => cast(alloc, place, name, operand),
+        PendingNode::Join(place, operator, left) => join(alloc, place, operator, left, operand),
+        PendingNode::Else(place, test, then) => conditional(alloc, place, test, then, operand),
         other => {
             let_go(other);
             Ok(operand)
@@ -35,16 +35,16 @@ fn close(alloc: Global, waiting: Waiting, operand: Whole) -> Result<Whole, NoMem
 
 /// Gives the newest node its last operand.
 #[tactic(auto, using(crate::proofs::Turns::top_small, crate::proofs::Turns::shallow))]
-fn close_top(alloc: Global, stack: Stack, operand: Whole) -> Result<(Stack, Whole), NoMemory>
-    requires { load (After (expr_tree operand.expr.value) (frames stack.waiting.items)) ≤ greatest_path }
-    ensures { IfOk result (λ r. (expr_tree r.1.expr.value, frames r.0.waiting.items) ≡ closed_top (expr_tree operand.expr.value) (frames stack.waiting.items)) }
+fn close_top(alloc: Global, stack: Stack, operand: Operand) -> Result<(Stack, Operand), NoMemory>
+    requires { deepest_path (AfterOperand (expr_tree operand.expr.value) (pending_nodes stack.pending.items)) ≤ greatest_path }
+    ensures { IfOk result (λ r. (expr_tree r.1.expr.value, pending_nodes r.0.pending.items) ≡ closed_top (expr_tree operand.expr.value) (pending_nodes stack.pending.items)) }
 {
     let (stack, top) = pop(stack);
     match top {
         None => Ok((stack, operand)),
-        Some(waiting) => {
-            let whole = close(alloc, waiting, operand)?;
-            Ok((stack, whole))
+        Some(pending) => {
+            let node = close(alloc, pending, operand)?;
+            Ok((stack, node))
         }
     }
 }
@@ -54,20 +54,20 @@ fn close_top(alloc: Global, stack: Stack, operand: Whole) -> Result<(Stack, Whol
 pub fn reduce(
     alloc: Global,
     stack: Stack,
-    operand: Whole,
+    operand: Operand,
     most: u32,
-) -> Result<(Stack, Whole), NoMemory>
-    requires { load (After (expr_tree operand.expr.value) (frames stack.waiting.items)) ≤ greatest_path }
-    ensures reduced { IfOk result (λ r. (expr_tree r.1.expr.value, frames r.0.waiting.items) ≡ reduce_of most (expr_tree operand.expr.value) (frames stack.waiting.items)) }
-    ensures again { IfOk result (λ r. reduce_of 0 (expr_tree r.1.expr.value) (frames r.0.waiting.items) ≡ reduce_of 0 (expr_tree operand.expr.value) (frames stack.waiting.items)) }
-    ensures loaded { IfOk result (λ r. load (After (expr_tree r.1.expr.value) (frames r.0.waiting.items)) ≤ load (After (expr_tree operand.expr.value) (frames stack.waiting.items))) }
+) -> Result<(Stack, Operand), NoMemory>
+    requires { deepest_path (AfterOperand (expr_tree operand.expr.value) (pending_nodes stack.pending.items)) ≤ greatest_path }
+    ensures reduced { IfOk result (λ r. (expr_tree r.1.expr.value, pending_nodes r.0.pending.items) ≡ reduce_of most (expr_tree operand.expr.value) (pending_nodes stack.pending.items)) }
+    ensures again { IfOk result (λ r. reduce_of 0 (expr_tree r.1.expr.value) (pending_nodes r.0.pending.items) ≡ reduce_of 0 (expr_tree operand.expr.value) (pending_nodes stack.pending.items)) }
+    ensures loaded { IfOk result (λ r. deepest_path (AfterOperand (expr_tree r.1.expr.value) (pending_nodes r.0.pending.items)) ≤ deepest_path (AfterOperand (expr_tree operand.expr.value) (pending_nodes stack.pending.items))) }
 {
     let mut stack = stack;
-    let mut whole = operand;
-    'closing: while most < top_grip(&stack) {
-        let (rest, closed) = close_top(alloc, stack, whole)?;
+    let mut node = operand;
+    'closing: while most < top_right_precedence(&stack) {
+        let (rest, closed) = close_top(alloc, stack, node)?;
         stack = rest;
-        whole = closed;
+        node = closed;
     }
-    Ok((stack, whole))
+    Ok((stack, node))
 }

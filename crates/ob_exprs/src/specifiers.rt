@@ -2,12 +2,12 @@ ghost use Rattle.std.specs.Prelude.{◌≡◌, ◌≤◌, ◌<◌, IfOk};
 ghost use Rattle.ob_tree.specs.Fronts.{greatest_path};
 ghost use Rattle.ob_tree.specs.Trees.{SpecTree};
 ghost use Rattle.ob_tree.specs.ExpressionView.{spec_tree};
-ghost use Rattle.ob_tree.proofs.Frames.{AfterSpec, Members as members_state};
-ghost use Rattle.ob_tree.proofs.Machine.{after_spec as after_spec_of, brace_to, close_struct as close_struct_of, members_to, spec_under as spec_under_of, struct_to, word_to};
+ghost use Rattle.ob_tree.specs.ExprStates.{AfterSpec, Members as members_state};
+ghost use Rattle.ob_tree.specs.ExprMachine.{after_spec as after_spec_of, brace_to, close_struct as close_struct_of, members_to, spec_under as spec_under_of, struct_to, word_to};
 ghost use Rattle.ob_exprs.specs.Lists.{member_trees};
-ghost use Rattle.ob_exprs.specs.Behind.{answered as answered_of};
-ghost use Rattle.ob_exprs.specs.Loads.{depth_of, load};
-ghost use Rattle.ob_exprs.specs.Reading.{Answers, Leads, held};
+ghost use Rattle.ob_exprs.specs.Behind.{shifted as shifted_of};
+ghost use Rattle.ob_exprs.specs.DeepestPaths.{depth_of, deepest_path};
+ghost use Rattle.ob_exprs.specs.Reading.{Shifts, Leads, held};
 ghost use Rattle.ob_exprs.specs.View.{body_of};
 
 use crate::brackets::{after_dims, declare};
@@ -15,21 +15,21 @@ use crate::integers::is_integer;
 use crate::lists::{no_dims, no_members, no_names};
 use crate::measured::MeasuredSpec;
 use crate::operands::specifier;
-use crate::reader::{Answer, Reader};
+use crate::reader::{Reader, Shift};
 use crate::spec_nodes::{integer, structure, tag};
 use crate::stack::{Stack, pop, push};
-use crate::state::{Body, Head, Line, Mode, Place, Waiting};
+use crate::state::{ExprMark, Head, Mode, PendingNode, StructBody, StructDeclaration};
 use ob_base::{NoMemory, let_go};
 use ob_tree::{Keyword, Sign, Spec, SpecNode, TokenKind};
 use std::alloc::Global;
 
 /// The answer where nothing whole was read before.
-pub fn answered(reader: Option<Reader>) -> Answer
-    ensures { result ≡ answered_of reader }
+pub fn shifted(reader: Option<Reader>) -> Shift
+    ensures { result ≡ shifted_of reader }
 {
     match reader {
-        Some(reader) => Answer::Goes(reader),
-        None => Answer::Stuck,
+        Some(reader) => Shift::Shifted(reader),
+        None => Shift::Rejected,
     }
 }
 
@@ -39,33 +39,33 @@ fn integer_to(
     first: u32,
     words: Vec<Keyword>,
     word: Keyword,
-) -> Result<Answer, NoMemory>
-    ensures { IfOk result (λ a. Answers (AfterSpec (SpecTree.Integer first words.items) (held stack)) a (word_to word (SpecTree.Integer first words.items) (held stack))) }
+) -> Result<Shift, NoMemory>
+    ensures { IfOk result (λ a. Shifts (AfterSpec (SpecTree.Integer first words.items) (held stack)) a (word_to word (SpecTree.Integer first words.items) (held stack))) }
 {
     let mut words = words;
     words.push(word)?;
     if is_integer(words.as_slice()) {
-        return Ok(Answer::Goes(Reader {
+        return Ok(Shift::Shifted(Reader {
             stack,
             mode: Mode::AfterSpec(integer(first, words)),
         }));
     }
     words.pop();
-    Ok(Answer::Stays(Reader {
+    Ok(Shift::Ended(Reader {
         stack,
         mode: Mode::AfterSpec(integer(first, words)),
     }))
 }
 
 /// A word behind a specifier.
-fn word(stack: Stack, spec: MeasuredSpec, word: Keyword) -> Result<Answer, NoMemory>
-    ensures { IfOk result (λ a. Answers (AfterSpec (spec_tree spec.spec) (held stack)) a (word_to word (spec_tree spec.spec) (held stack))) }
+fn word(stack: Stack, spec: MeasuredSpec, word: Keyword) -> Result<Shift, NoMemory>
+    ensures { IfOk result (λ a. Shifts (AfterSpec (spec_tree spec.spec) (held stack)) a (word_to word (spec_tree spec.spec) (held stack))) }
 {
     let MeasuredSpec { spec, height, .. } = spec;
     let Spec { first, node } = spec;
     match node {
         SpecNode::Integer(words) => integer_to(stack, first, words, word),
-        node => Ok(Answer::Stays(Reader {
+        node => Ok(Shift::Ended(Reader {
             stack,
             mode: Mode::AfterSpec(MeasuredSpec {
                 spec: Spec { first, node },
@@ -76,24 +76,24 @@ fn word(stack: Stack, spec: MeasuredSpec, word: Keyword) -> Result<Answer, NoMem
 }
 
 /// An opening brace behind a specifier.
-fn brace(alloc: Global, stack: Stack, spec: MeasuredSpec) -> Answer
-    ensures { Answers (AfterSpec (spec_tree spec.spec) (held stack)) result (brace_to (spec_tree spec.spec) (held stack)) }
+fn brace(alloc: Global, stack: Stack, spec: MeasuredSpec) -> Shift
+    ensures { Shifts (AfterSpec (spec_tree spec.spec) (held stack)) result (brace_to (spec_tree spec.spec) (held stack)) }
 {
     let MeasuredSpec { spec, height, .. } = spec;
     let Spec { first, node } = spec;
     match node {
         SpecNode::Tag(tag) => {
-            let body = Body {
+            let body = StructBody {
                 first,
                 tag: Some(tag),
                 members: no_members(alloc),
             };
-            Answer::Goes(Reader {
+            Shift::Shifted(Reader {
                 stack,
                 mode: Mode::Members(body),
             })
         }
-        node => Answer::Stays(Reader {
+        node => Shift::Ended(Reader {
             stack,
             mode: Mode::AfterSpec(MeasuredSpec {
                 spec: Spec { first, node },
@@ -111,35 +111,35 @@ fn under(
     spec: MeasuredSpec,
     kind: &TokenKind,
     at: u32,
-) -> Result<Answer, NoMemory>
-    requires small { load (AfterSpec (spec_tree spec.spec) (held stack)) ≤ greatest_path }
+) -> Result<Shift, NoMemory>
+    requires small { deepest_path (AfterSpec (spec_tree spec.spec) (held stack)) ≤ greatest_path }
     requires shallow { depth_of (held stack) ≤ 1000 }
-    ensures { IfOk result (λ a. Answers (AfterSpec (spec_tree spec.spec) (held stack)) a (spec_under_of at kind.now (spec_tree spec.spec) (held stack))) }
+    ensures { IfOk result (λ a. Shifts (AfterSpec (spec_tree spec.spec) (held stack)) a (spec_under_of at kind.now (spec_tree spec.spec) (held stack))) }
 {
     let (stack, top) = pop(stack);
     match top {
-        Some(Waiting::Type(place, sized)) => {
+        Some(PendingNode::Type(place, sized)) => {
             let head = Head::Type {
                 place,
                 sized,
                 spec,
                 stars: 0,
             };
-            Ok(answered(after_dims(alloc, stack, head, no_dims(alloc), kind)?))
+            Ok(shifted(after_dims(alloc, stack, head, no_dims(alloc), kind)?))
         }
-        Some(Waiting::Struct(body)) => {
-            let line = Line {
+        Some(PendingNode::Struct(body)) => {
+            let line = StructDeclaration {
                 body,
                 spec,
                 names: no_names(alloc),
             };
-            Ok(answered(declare(alloc, stack, line, 0, kind, at)?))
+            Ok(shifted(declare(alloc, stack, line, 0, kind, at)?))
         }
         Some(other) => {
             let_go((other, spec));
-            Ok(Answer::Stuck)
+            Ok(Shift::Rejected)
         }
-        None => Ok(Answer::Stays(Reader {
+        None => Ok(Shift::Ended(Reader {
             stack,
             mode: Mode::AfterSpec(spec),
         })),
@@ -153,10 +153,10 @@ pub fn after_spec(
     spec: MeasuredSpec,
     kind: &TokenKind,
     at: u32,
-) -> Result<Answer, NoMemory>
-    requires small { load (AfterSpec (spec_tree spec.spec) (held stack)) ≤ greatest_path }
+) -> Result<Shift, NoMemory>
+    requires small { deepest_path (AfterSpec (spec_tree spec.spec) (held stack)) ≤ greatest_path }
     requires shallow { depth_of (held stack) ≤ 1000 }
-    ensures { IfOk result (λ a. Answers (AfterSpec (spec_tree spec.spec) (held stack)) a (after_spec_of at kind.now (spec_tree spec.spec) (held stack))) }
+    ensures { IfOk result (λ a. Shifts (AfterSpec (spec_tree spec.spec) (held stack)) a (after_spec_of at kind.now (spec_tree spec.spec) (held stack))) }
 {
     match kind {
         TokenKind::Word(next) => word(stack, spec, *next),
@@ -176,7 +176,7 @@ pub fn structured(
 {
     let mode = match kind {
         TokenKind::Name(text) => Mode::AfterSpec(tag(first, text.copy(alloc)?)),
-        TokenKind::Sign(Sign::OpenBrace) => Mode::Members(Body {
+        TokenKind::Sign(Sign::OpenBrace) => Mode::Members(StructBody {
             first,
             tag: None,
             members: no_members(alloc),
@@ -188,11 +188,11 @@ pub fn structured(
 
 /// The closing brace of a structure, which stands behind members.
 #[tactic(auto, using(crate::proofs::Rows::struct_some, crate::proofs::Rows::struct_none))]
-fn close_struct(stack: Stack, body: Body) -> Option<Reader>
-    requires { load (members_state (body_of body) (held stack)) ≤ greatest_path }
+fn close_struct(stack: Stack, body: StructBody) -> Option<Reader>
+    requires { deepest_path (members_state (body_of body) (held stack)) ≤ greatest_path }
     ensures { Leads result (close_struct_of body.first body.tag (member_trees body.members.items.items) (held stack)) }
 {
-    let Body {
+    let StructBody {
         first,
         tag,
         members,
@@ -211,18 +211,18 @@ fn close_struct(stack: Stack, body: Body) -> Option<Reader>
 pub fn members(
     alloc: Global,
     stack: Stack,
-    body: Body,
+    body: StructBody,
     kind: &TokenKind,
-    place: Place,
+    place: ExprMark,
 ) -> Result<Option<Reader>, NoMemory>
-    requires small { load (members_state (body_of body) (held stack)) ≤ greatest_path }
+    requires small { deepest_path (members_state (body_of body) (held stack)) ≤ greatest_path }
     requires shallow { depth_of (held stack) ≤ 1000 }
     ensures { IfOk result (λ o. Leads o (members_to place.first kind.now (body_of body) (held stack))) }
 {
     match kind {
         TokenKind::Sign(Sign::CloseBrace) => Ok(close_struct(stack, body)),
         _ => {
-            let stack = push(stack, Waiting::Struct(body))?;
+            let stack = push(stack, PendingNode::Struct(body))?;
             specifier(alloc, stack, kind, place.first)
         }
     }

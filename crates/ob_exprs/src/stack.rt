@@ -1,13 +1,13 @@
 ghost use Rattle.std.specs.Prelude.{◌≡◌, ◌≤◌, ◌+◌, ◌^◌, ◌∷◌, [], IfOk, MatchOption, OnOk};
 ghost use Rattle.ob_tree.specs.ExpressionView.{dim_trees};
-ghost use Rattle.ob_tree.proofs.Frames.{grip as grip_of, hole as hole_of, top_hole as top_hole_of};
-ghost use Rattle.ob_tree.proofs.Settled.{top_grip as top_grip_of};
-ghost use Rattle.ob_exprs.specs.Loads.{depth_of, head_rise as head_rise_of, inner as inner_of, newest_stack, rise as rise_of};
-ghost use Rattle.ob_exprs.specs.View.{frame_of, frames, head_of};
+ghost use Rattle.ob_tree.specs.ExprStates.{right_precedence as right_precedence_of, operand_level as operand_level_of, top_operand_level as top_operand_level_of};
+ghost use Rattle.ob_tree.specs.ExprStates.{top_right_precedence as top_right_precedence_of};
+ghost use Rattle.ob_exprs.specs.DeepestPaths.{depth_of, head_rise as head_rise_of, inner as inner_of, newest_stack_path, rise as rise_of};
+ghost use Rattle.ob_exprs.specs.View.{pending_of, pending_nodes, head_of};
 
 use crate::level::{ASSIGN, CAST, COND, EXPR, NO_LEVEL, UNARY};
 use crate::operators::right_level;
-use crate::state::{Head, Waiting};
+use crate::state::{Head, PendingNode};
 use ob_base::NoMemory;
 use std::alloc::Global;
 
@@ -15,9 +15,9 @@ use std::alloc::Global;
 /// comes next.
 #[derive(Drop)]
 pub struct Stack {
-    pub waiting: Vec<Waiting>,
+    pub pending: Vec<PendingNode>,
     pub depth: u32,
-    ghost depth_is: { depth ≡ depth_of (frames waiting.items) },
+    ghost depth_is: { depth ≡ depth_of (pending_nodes pending.items) },
 }
 
 /// The nodes from the row's own on down to its brackets.
@@ -32,71 +32,71 @@ pub fn head_rise(head: &Head) -> usize
 }
 
 /// The nodes from the node's own on down to where its part is missing.
-pub fn rise(waiting: &Waiting) -> usize
-    ensures exact { result ≡ rise_of (frame_of waiting.now) }
+pub fn rise(pending: &PendingNode) -> usize
+    ensures exact { result ≡ rise_of (pending_of pending.now) }
     ensures small { result ≤ 2 ^ 34 }
 {
-    match waiting {
-        Waiting::Length(head, dims) => head_rise(head) + (dims.count as usize + 1),
+    match pending {
+        PendingNode::Length(head, dims) => head_rise(head) + (dims.count as usize + 1),
         _ => 1,
     }
 }
 
 pub fn empty(alloc: Global) -> Stack
-    ensures { frames result.waiting.items ≡ [] }
+    ensures { pending_nodes result.pending.items ≡ [] }
 {
     Stack {
-        waiting: Vec::new(alloc),
+        pending: Vec::new(alloc),
         depth: 0,
     }
 }
 
-pub fn push_waiting(stack: &mut Vec<Waiting>, waiting: Waiting) -> Result<(), NoMemory>
-    ensures { OnOk result (frames stack.new.items ≡ frame_of waiting ∷ frames stack.old.items) }
+pub fn push_pending(stack: &mut Vec<PendingNode>, pending: PendingNode) -> Result<(), NoMemory>
+    ensures { OnOk result (pending_nodes stack.new.items ≡ pending_of pending ∷ pending_nodes stack.old.items) }
 {
-    stack.push(waiting)?;
+    stack.push(pending)?;
     Ok(())
 }
 
-pub fn pop_waiting(stack: &mut Vec<Waiting>) -> Option<Waiting>
-    ensures { MatchOption result ((frames stack.old.items ≡ []) × (frames stack.new.items ≡ []))
-        (λ top. frames stack.old.items ≡ frame_of top ∷ frames stack.new.items) }
+pub fn pop_pending(stack: &mut Vec<PendingNode>) -> Option<PendingNode>
+    ensures { MatchOption result ((pending_nodes stack.old.items ≡ []) × (pending_nodes stack.new.items ≡ []))
+        (λ top. pending_nodes stack.old.items ≡ pending_of top ∷ pending_nodes stack.new.items) }
 {
     stack.pop()
 }
 
 /// The stack with one node more.
-pub fn push(stack: Stack, waiting: Waiting) -> Result<Stack, NoMemory>
-    requires shallow { depth_of (frames stack.waiting.items) ≤ 100000 }
-    requires narrow { rise_of (frame_of waiting) ≤ 1000 }
-    ensures { IfOk result (λ s. frames s.waiting.items ≡ frame_of waiting ∷ frames stack.waiting.items) }
+pub fn push(stack: Stack, pending: PendingNode) -> Result<Stack, NoMemory>
+    requires shallow { depth_of (pending_nodes stack.pending.items) ≤ 100000 }
+    requires narrow { rise_of (pending_of pending) ≤ 1000 }
+    ensures { IfOk result (λ s. pending_nodes s.pending.items ≡ pending_of pending ∷ pending_nodes stack.pending.items) }
 {
-    let depth = stack.depth + rise(&waiting) as u32;
-    let Stack { waiting: items, .. } = stack;
+    let depth = stack.depth + rise(&pending) as u32;
+    let Stack { pending: items, .. } = stack;
     let mut items = items;
-    push_waiting(&mut items, waiting)?;
+    push_pending(&mut items, pending)?;
     Ok(Stack {
-        waiting: items,
+        pending: items,
         depth,
     })
 }
 
 /// The stack without its newest node, and that node, where there is one.
-pub fn pop(stack: Stack) -> (Stack, Option<Waiting>)
-    requires { depth_of (frames stack.waiting.items) ≤ 1000 }
-    ensures { MatchOption result.1 ((frames stack.waiting.items ≡ []) × (frames result.0.waiting.items ≡ []))
-        (λ top. frames stack.waiting.items ≡ frame_of top ∷ frames result.0.waiting.items) }
+pub fn pop(stack: Stack) -> (Stack, Option<PendingNode>)
+    requires { depth_of (pending_nodes stack.pending.items) ≤ 1000 }
+    ensures { MatchOption result.1 ((pending_nodes stack.pending.items ≡ []) × (pending_nodes result.0.pending.items ≡ []))
+        (λ top. pending_nodes stack.pending.items ≡ pending_of top ∷ pending_nodes result.0.pending.items) }
 {
     let Stack {
-        waiting: items,
+        pending: items,
         depth,
         ..
     } = stack;
     let mut items = items;
-    match pop_waiting(&mut items) {
+    match pop_pending(&mut items) {
         None => (
             Stack {
-                waiting: items,
+                pending: items,
                 depth,
             },
             None,
@@ -105,7 +105,7 @@ pub fn pop(stack: Stack) -> (Stack, Option<Waiting>)
             let depth = depth - rise(&top) as u32;
             (
                 Stack {
-                    waiting: items,
+                    pending: items,
                     depth,
                 },
                 Some(top),
@@ -114,48 +114,48 @@ pub fn pop(stack: Stack) -> (Stack, Option<Waiting>)
     }
 }
 
-fn hole(waiting: &Waiting) -> u32
-    ensures { result ≡ hole_of (frame_of waiting.now) }
+fn operand_level(pending: &PendingNode) -> u32
+    ensures { result ≡ operand_level_of (pending_of pending.now) }
 {
-    match waiting {
-        Waiting::Paren(_) | Waiting::Index(_, _) | Waiting::Then(_, _) => EXPR,
-        Waiting::Call(_, _, _) => ASSIGN,
-        Waiting::Step(_, _) | Waiting::Size(_) => UNARY,
-        Waiting::Unary(_, _) | Waiting::Cast(_, _) => CAST,
-        Waiting::Join(_, operator, _) => right_level(*operator),
-        Waiting::Else(_, _, _) | Waiting::Length(_, _) => COND,
-        Waiting::Type(_, _) | Waiting::Struct(_) => NO_LEVEL,
+    match pending {
+        PendingNode::Paren(_) | PendingNode::Index(_, _) | PendingNode::Then(_, _) => EXPR,
+        PendingNode::Call(_, _, _) => ASSIGN,
+        PendingNode::Step(_, _) | PendingNode::Size(_) => UNARY,
+        PendingNode::Unary(_, _) | PendingNode::Cast(_, _) => CAST,
+        PendingNode::Join(_, operator, _) => right_level(*operator),
+        PendingNode::Else(_, _, _) | PendingNode::Length(_, _) => COND,
+        PendingNode::Type(_, _) | PendingNode::Struct(_) => NO_LEVEL,
     }
 }
 
 /// The nonterminal that the newest node waits for, or else `least`.
-pub fn top_hole(stack: &Stack, least: u32) -> u32
-    ensures { result ≡ top_hole_of least (frames stack.now.waiting.items) }
+pub fn top_operand_level(stack: &Stack, least: u32) -> u32
+    ensures { result ≡ top_operand_level_of least (pending_nodes stack.now.pending.items) }
 {
-    match stack.waiting.last() {
+    match stack.pending.last() {
         None => least,
-        Some(top) => hole(top),
+        Some(top) => operand_level(top),
     }
 }
 
-fn grip(waiting: &Waiting) -> u32
-    ensures { result ≡ grip_of (frame_of waiting.now) }
+fn right_precedence(pending: &PendingNode) -> u32
+    ensures { result ≡ right_precedence_of (pending_of pending.now) }
 {
-    match waiting {
-        Waiting::Step(_, _) | Waiting::Size(_) => UNARY,
-        Waiting::Unary(_, _) | Waiting::Cast(_, _) => CAST,
-        Waiting::Join(_, operator, _) => right_level(*operator),
-        Waiting::Else(_, _, _) => COND,
+    match pending {
+        PendingNode::Step(_, _) | PendingNode::Size(_) => UNARY,
+        PendingNode::Unary(_, _) | PendingNode::Cast(_, _) => CAST,
+        PendingNode::Join(_, operator, _) => right_level(*operator),
+        PendingNode::Else(_, _, _) => COND,
         _ => 0,
     }
 }
 
 /// The nonterminal below which a sign closes the newest node: 0 where none does.
-pub fn top_grip(stack: &Stack) -> u32
-    ensures { result ≡ top_grip_of (frames stack.now.waiting.items) }
+pub fn top_right_precedence(stack: &Stack) -> u32
+    ensures { result ≡ top_right_precedence_of (pending_nodes stack.now.pending.items) }
 {
-    match stack.waiting.last() {
+    match stack.pending.last() {
         None => 0,
-        Some(top) => grip(top),
+        Some(top) => right_precedence(top),
     }
 }

@@ -1,19 +1,19 @@
 ghost use Rattle.std.specs.Prelude.{◌≡◌, ◌≤◌, ◌<◌, IfOk};
 ghost use Rattle.ob_tree.specs.Paths.{height as height_of};
 ghost use Rattle.ob_tree.specs.ExpressionView.{expr_tree};
-ghost use Rattle.ob_tree.proofs.Machine.{called as called_of, opened as opened_of, opened_word as opened_word_of, select as select_of, size_opened as size_opened_of, size_opened_word as size_opened_word_of, sized as sized_of};
-ghost use Rattle.ob_exprs.specs.Loads.{depth_of};
+ghost use Rattle.ob_tree.specs.ExprMachine.{called as called_of, opened as opened_of, opened_word as opened_word_of, select as select_of, size_opened as size_opened_of, size_opened_word as size_opened_word_of, sized as sized_of};
+ghost use Rattle.ob_exprs.specs.DeepestPaths.{depth_of};
 ghost use Rattle.ob_exprs.specs.Reading.{Leads, held};
 ghost use Rattle.ob_exprs.specs.View.{mark};
 
 use crate::level::CAST;
 use crate::lists::no_arguments;
-use crate::measured::Whole;
+use crate::measured::Operand;
 use crate::nodes::{call, selected};
 use crate::operands::{begins_spec, operand, operand_word, spec_word};
 use crate::reader::Reader;
-use crate::stack::{Stack, push, top_hole};
-use crate::state::{Mode, Place, Waiting};
+use crate::stack::{Stack, push, top_operand_level};
+use crate::state::{ExprMark, Mode, PendingNode};
 use ob_base::{NoMemory, Text};
 use ob_tree::{Keyword, Sign, TokenKind};
 use std::alloc::Global;
@@ -22,22 +22,22 @@ use std::alloc::Global;
 fn opened_word(
     alloc: Global,
     stack: Stack,
-    paren: Place,
+    paren: ExprMark,
     word: Keyword,
-    place: Place,
+    place: ExprMark,
     least: u32,
 ) -> Result<Option<Reader>, NoMemory>
     requires { depth_of (held stack) ≤ 1000 }
     ensures { IfOk result (λ o. Leads o (opened_word_of least (mark place) word (mark paren) (held stack))) }
 {
     if !begins_spec(word) {
-        let stack = push(stack, Waiting::Paren(paren))?;
+        let stack = push(stack, PendingNode::Paren(paren))?;
         return operand_word(alloc, stack, word, place);
     }
-    if CAST < top_hole(&stack, least) {
+    if CAST < top_operand_level(&stack, least) {
         return Ok(None);
     }
-    let stack = push(stack, Waiting::Type(paren, false))?;
+    let stack = push(stack, PendingNode::Type(paren, false))?;
     spec_word(alloc, stack, word, place.first)
 }
 
@@ -45,9 +45,9 @@ fn opened_word(
 pub fn opened(
     alloc: Global,
     stack: Stack,
-    paren: Place,
+    paren: ExprMark,
     kind: &TokenKind,
-    place: Place,
+    place: ExprMark,
     least: u32,
 ) -> Result<Option<Reader>, NoMemory>
     requires { depth_of (held stack) ≤ 1000 }
@@ -56,7 +56,7 @@ pub fn opened(
     match kind {
         TokenKind::Word(word) => opened_word(alloc, stack, paren, *word, place, least),
         _ => {
-            let stack = push(stack, Waiting::Paren(paren))?;
+            let stack = push(stack, PendingNode::Paren(paren))?;
             operand(alloc, stack, kind, place)
         }
     }
@@ -66,9 +66,9 @@ pub fn opened(
 pub fn sized(
     alloc: Global,
     stack: Stack,
-    size: Place,
+    size: ExprMark,
     kind: &TokenKind,
-    place: Place,
+    place: ExprMark,
 ) -> Result<Option<Reader>, NoMemory>
     requires { depth_of (held stack) ≤ 1000 }
     ensures { IfOk result (λ o. Leads o (sized_of (mark place) kind.now (mark size) (held stack))) }
@@ -79,7 +79,7 @@ pub fn sized(
             mode: Mode::SizeOpen(size, place),
         })),
         _ => {
-            let stack = push(stack, Waiting::Size(size))?;
+            let stack = push(stack, PendingNode::Size(size))?;
             operand(alloc, stack, kind, place)
         }
     }
@@ -89,20 +89,20 @@ pub fn sized(
 fn size_opened_word(
     alloc: Global,
     stack: Stack,
-    size: Place,
-    paren: Place,
+    size: ExprMark,
+    paren: ExprMark,
     word: Keyword,
-    place: Place,
+    place: ExprMark,
 ) -> Result<Option<Reader>, NoMemory>
     requires { depth_of (held stack) ≤ 1000 }
     ensures { IfOk result (λ o. Leads o (size_opened_word_of (mark place) word (mark size) (mark paren) (held stack))) }
 {
     if begins_spec(word) {
-        let stack = push(stack, Waiting::Type(size, true))?;
+        let stack = push(stack, PendingNode::Type(size, true))?;
         return spec_word(alloc, stack, word, place.first);
     }
-    let stack = push(stack, Waiting::Size(size))?;
-    let stack = push(stack, Waiting::Paren(paren))?;
+    let stack = push(stack, PendingNode::Size(size))?;
+    let stack = push(stack, PendingNode::Paren(paren))?;
     operand_word(alloc, stack, word, place)
 }
 
@@ -110,10 +110,10 @@ fn size_opened_word(
 pub fn size_opened(
     alloc: Global,
     stack: Stack,
-    size: Place,
-    paren: Place,
+    size: ExprMark,
+    paren: ExprMark,
     kind: &TokenKind,
-    place: Place,
+    place: ExprMark,
 ) -> Result<Option<Reader>, NoMemory>
     requires { depth_of (held stack) ≤ 1000 }
     ensures { IfOk result (λ o. Leads o (size_opened_of (mark place) kind.now (mark size) (mark paren) (held stack))) }
@@ -121,8 +121,8 @@ pub fn size_opened(
     match kind {
         TokenKind::Word(word) => size_opened_word(alloc, stack, size, paren, *word, place),
         _ => {
-            let stack = push(stack, Waiting::Size(size))?;
-            let stack = push(stack, Waiting::Paren(paren))?;
+            let stack = push(stack, PendingNode::Size(size))?;
+            let stack = push(stack, PendingNode::Paren(paren))?;
             operand(alloc, stack, kind, place)
         }
     }
@@ -132,10 +132,10 @@ pub fn size_opened(
 pub fn called(
     alloc: Global,
     stack: Stack,
-    place_of_call: Place,
+    place_of_call: ExprMark,
     name: Text,
     kind: &TokenKind,
-    place: Place,
+    place: ExprMark,
 ) -> Result<Option<Reader>, NoMemory>
     requires { depth_of (held stack) ≤ 1000 }
     ensures { IfOk result (λ o. Leads o (called_of (mark place) kind.now (mark place_of_call) name (held stack))) }
@@ -143,12 +143,12 @@ pub fn called(
     match kind {
         TokenKind::Sign(Sign::CloseParen) => Ok(Some(Reader {
             stack,
-            mode: Mode::After(call(alloc, place_of_call, name, no_arguments(alloc))?),
+            mode: Mode::AfterOperand(call(alloc, place_of_call, name, no_arguments(alloc))?),
         })),
         _ => {
             let stack = push(
                 stack,
-                Waiting::Call(place_of_call, name, no_arguments(alloc)),
+                PendingNode::Call(place_of_call, name, no_arguments(alloc)),
             )?;
             operand(alloc, stack, kind, place)
         }
@@ -159,9 +159,9 @@ pub fn called(
 pub fn select(
     alloc: Global,
     stack: Stack,
-    place: Place,
+    place: ExprMark,
     arrow: bool,
-    base: Whole,
+    base: Operand,
     kind: &TokenKind,
 ) -> Result<Option<Reader>, NoMemory>
     requires { height_of (expr_tree base.expr.value) < 1000 }
@@ -170,10 +170,10 @@ pub fn select(
     match kind {
         TokenKind::Name(text) => {
             let text = text.copy(alloc)?;
-            let whole = selected(alloc, place, arrow, base, text)?;
+            let operand = selected(alloc, place, arrow, base, text)?;
             Ok(Some(Reader {
                 stack,
-                mode: Mode::After(whole),
+                mode: Mode::AfterOperand(operand),
             }))
         }
         _ => Ok(None),

@@ -1,11 +1,11 @@
-use crate::measured::{Arguments, Dims, MeasuredSpec, MeasuredType, Members, Names, Whole};
+use crate::measured::{Arguments, Dims, MeasuredSpec, MeasuredType, Members, Names, Operand};
 use ob_base::Text;
 use ob_tree::Sign;
 
 /// Where an expression stands: the places of its first token and of its own sign, and the line of
 /// the first token.
 #[derive(Clone, Copy, Debug, PartialEq, Eq)]
-pub struct Place {
+pub struct ExprMark {
     pub first: u32,
     pub at: u32,
     pub line: u32,
@@ -21,7 +21,7 @@ pub enum Operator {
 
 /// A structure that has begun: the place of its first token, its tag, and the members so far.
 #[derive(Drop)]
-pub struct Body {
+pub struct StructBody {
     pub first: u32,
     pub tag: Option<Text>,
     pub members: Members,
@@ -29,8 +29,8 @@ pub struct Body {
 
 /// A line of members that has begun: its specifier, and the names so far.
 #[derive(Drop)]
-pub struct Line {
-    pub body: Body,
+pub struct StructDeclaration {
+    pub body: StructBody,
     pub spec: MeasuredSpec,
     pub names: Names,
 }
@@ -40,14 +40,14 @@ pub struct Line {
 pub enum Head {
     /// The stars of the type name of a cast or, where `sized`, of a `sizeof`.
     Type {
-        place: Place,
+        place: ExprMark,
         sized: bool,
         spec: MeasuredSpec,
         stars: u32,
     },
     /// The stars and the name of a member.
     Member {
-        line: Line,
+        line: StructDeclaration,
         stars: u32,
         name: Text,
         at: u32,
@@ -56,52 +56,52 @@ pub enum Head {
 
 /// A node that waits for its last part.
 #[derive(Drop)]
-pub enum Waiting {
-    Paren(Place),
-    Index(Place, Whole),
-    Call(Place, Text, Arguments),
-    Step(Place, bool),
-    Unary(Place, Sign),
-    Size(Place),
-    Cast(Place, MeasuredType),
-    Join(Place, Operator, Whole),
+pub enum PendingNode {
+    Paren(ExprMark),
+    Index(ExprMark, Operand),
+    Call(ExprMark, Text, Arguments),
+    Step(ExprMark, bool),
+    Unary(ExprMark, Sign),
+    Size(ExprMark),
+    Cast(ExprMark, MeasuredType),
+    Join(ExprMark, Operator, Operand),
     /// Between `?` and `:`.
-    Then(Place, Whole),
+    Then(ExprMark, Operand),
     /// Behind `:`.
-    Else(Place, Whole, Whole),
+    Else(ExprMark, Operand, Operand),
     /// In a bracket behind these.
     Length(Head, Dims),
     /// A cast or, where true, a `sizeof` that waits for the specifier of its type name.
-    Type(Place, bool),
+    Type(ExprMark, bool),
     /// A structure that waits for the specifier of a line of members.
-    Struct(Body),
+    Struct(StructBody),
 }
 
 /// What comes next, or what was read last.
 #[derive(Drop)]
 pub enum Mode {
     /// An operand comes.
-    Operand,
+    BeforeOperand,
     /// `(` was read, of a cast or not.
-    Open(Place),
+    Open(ExprMark),
     /// `sizeof` was read.
-    Size(Place),
+    Size(ExprMark),
     /// `sizeof` and `(` were read.
-    SizeOpen(Place, Place),
+    SizeOpen(ExprMark, ExprMark),
     /// A name and `(` were read.
-    Called(Place, Text),
+    Called(ExprMark, Text),
     /// An operand and `.` or, where true, `->` were read.
-    Select(Place, bool, Whole),
+    Select(ExprMark, bool, Operand),
     /// A whole operand was read.
-    After(Whole),
+    AfterOperand(Operand),
     /// A specifier comes.
     Specifier,
     /// `struct` was read.
     StructWord(u32),
     /// `{` of a structure or `;` of its members was read.
-    Members(Body),
+    Members(StructBody),
     /// The stars of a member were read.
-    Declare(Line, u32),
+    Declare(StructDeclaration, u32),
     /// A row of brackets was read.
     Dims(Head, Dims),
     /// A whole specifier was read.

@@ -1,8 +1,8 @@
 use Rattle.std.proofs.Common.{Err, subst}
 use Rattle.std.proofs.lemmas.Result.{err_from_is_err_and}
-use Rattle.ob_tree.proofs.Frames.{Specifier}
+use Rattle.ob_tree.specs.ExprStates.{no_level, Specifier}
 use Rattle.ob_exprs.specs.Reading.{held}
-use Rattle.ob_exprs.specs.Reads.{reading, Reads, Stands}
+use Rattle.ob_exprs.specs.ReadTokens.{reading, Leaves, Stands}
 use Rattle.ob_exprs.proofs.Loop.{spec-some, spec-no, spec-fault}
 use Rattle.ob_exprs.proofs.parse.parse_spec.Goals as goal
 
@@ -11,19 +11,19 @@ returns-in_err-reader c =
     let p = err_from_is_err_and c.from_residual.result c.from_residual.ensures.1 in
     rw (p.1, p.2) (
     spec-fault c.args.tokens.now.items c.args.from c.args.depth (held c.empty.result) c.empty.ensures c.requires.of_source c.requires.from_in c.requires.depth_in c.in_err-reader.field-0.0
-    (subst (λ ts. Reads (reading ts 17 c.args.depth c.args.from (Specifier (held c.empty.result))) (Err c.in_err-reader.field-0.0)) c.as_slice.ensures.value c.in_err-reader.ensures.reads)
+    (subst (λ ts. Leaves (reading ts no_level c.args.depth c.args.from (Specifier (held c.empty.result))) (Err c.in_err-reader.field-0.0)) c.as_slice.ensures.value c.in_err-reader.ensures.reads)
     )
 
 pub returns-in-Some : goal.returns-in-Some
 returns-in-Some c =
     spec-some c.args.tokens.now.items c.args.from c.args.depth (held c.empty.result) c.empty.ensures c.requires.of_source c.requires.from_in c.requires.depth_in
     c.in_ok-reader.place c.in_ok-reader.reader c.finish_spec.result c.in-Some.spec
-    (subst (λ ts. Stands (reading ts 17 c.args.depth c.args.from (Specifier (held c.empty.result))) c.in_ok-reader.place c.in_ok-reader.reader) c.as_slice.ensures.value c.in_ok-reader.ensures.reads)
+    (subst (λ ts. Stands (reading ts no_level c.args.depth c.args.from (Specifier (held c.empty.result))) c.in_ok-reader.place c.in_ok-reader.reader) c.as_slice.ensures.value c.in_ok-reader.ensures.reads)
     c.finish_spec.ensures c.in-Some.is
 
 pub returns-in-None : goal.returns-in-None
 returns-in-None c =
     spec-no c.args.tokens.now.items c.args.from c.args.depth (held c.empty.result) c.empty.ensures c.requires.of_source c.requires.from_in c.requires.depth_in
     c.in_ok-reader.place c.in_ok-reader.reader c.finish_spec.result
-    (subst (λ ts. Stands (reading ts 17 c.args.depth c.args.from (Specifier (held c.empty.result))) c.in_ok-reader.place c.in_ok-reader.reader) c.as_slice.ensures.value c.in_ok-reader.ensures.reads)
+    (subst (λ ts. Stands (reading ts no_level c.args.depth c.args.from (Specifier (held c.empty.result))) c.in_ok-reader.place c.in_ok-reader.reader) c.as_slice.ensures.value c.in_ok-reader.ensures.reads)
     c.finish_spec.ensures c.in-None.is

@@ -1,5 +1,5 @@
 use Rattle.ob_exprs.specs.Reading.{state_of}
-use Rattle.ob_exprs.specs.Reads.{reading}
+use Rattle.ob_exprs.specs.ReadTokens.{reading}
 use Rattle.ob_exprs.proofs.Loop.{Kept}
 use Rattle.ob_exprs.proofs.read.read.Given as goal
 

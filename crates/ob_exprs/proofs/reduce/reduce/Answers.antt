@@ -1,12 +1,12 @@
 use Rattle.std.proofs.Common.{◌<◌, ◌∙◌, arith}
 use Rattle.ob_tree.specs.ExpressionView.{expr_tree}
-use Rattle.ob_tree.proofs.Settled.{top_grip}
-use Rattle.ob_exprs.specs.View.{frames}
+use Rattle.ob_tree.proofs.Unreduced.{top_right_precedence}
+use Rattle.ob_exprs.specs.View.{pending_nodes}
 use Rattle.ob_exprs.proofs.Turns.{turn}
 use Rattle.ob_exprs.proofs.reduce.reduce.Goals as goal
 
 pub closing-preserved : goal.closing-preserved
 closing-preserved c =
-    let h : c.args.most < top_grip (frames c.closing.stack.waiting.items) = omega arith in
-    let t = turn c.args.most (expr_tree c.closing.whole.expr.value) (frames c.closing.stack.waiting.items) (expr_tree c.in_ok-rest.closed.expr) (frames c.in_ok-rest.rest.waiting.items) h c.in_ok-rest.ensures in
-    record { same = t.same ∙ c.closing.invariant.same; load = omega (arith, t.load, c.closing.invariant.load) }
+    let h : c.args.most < top_right_precedence (pending_nodes c.closing.stack.pending.items) = omega arith in
+    let t = turn c.args.most (expr_tree c.closing.node.expr.value) (pending_nodes c.closing.stack.pending.items) (expr_tree c.in_ok-rest.closed.expr) (pending_nodes c.in_ok-rest.rest.pending.items) h c.in_ok-rest.ensures in
+    record { same = t.same ∙ c.closing.invariant.same; deepest_path = omega (arith, t.deepest_path, c.closing.invariant.deepest_path) }

@@ -5,16 +5,16 @@ use Rattle.ob_tree.specs.declared.faults.SyntaxFault.{SyntaxFault}
 use Rattle.ob_tree.specs.declared.faults.SyntaxFault.TheVariants as fault
 use Rattle.ob_tree.specs.Places.{here}
 use Rattle.ob_tree.specs.Fronts.{greatest_path, lines}
-use Rattle.ob_tree.proofs.Frames.{State}
-use Rattle.ob_tree.proofs.Machine.{step, finish, finish_spec}
-use Rattle.ob_tree.proofs.Readings as machine
+use Rattle.ob_tree.specs.ExprStates.{State}
+use Rattle.ob_tree.specs.ExprMachine.{shift, finish, finish_spec}
+use Rattle.ob_tree.specs.Readings as machine
 use Rattle.ob_exprs.specs.declared.reader.Reader.{Reader}
-use Rattle.ob_exprs.specs.Loads.{load}
+use Rattle.ob_exprs.specs.DeepestPaths.{deepest_path}
 use Rattle.ob_exprs.specs.Reading.{state_of}
 
 -- what the machine leaves that holds this at place i
 abbrev pub reading : List Token → (least depth i : ℕ) → State → machine.Reading State
-reading ts least depth i s = machine.read (λ q k t. step least (here (lines ts) q) k t) load depth i (map (λ t. t.kind) (drop i ts)) s
+reading ts least depth i s = machine.read (λ q k t. shift least (here (lines ts) q) k t) deepest_path depth i (map (λ t. t.kind) (drop i ts)) s
 
 -- The machine stops at i, and what the reader holds finishes as what the machine holds there.
 pub record Stands (left : machine.Reading State) (i : ℕ) (r : Reader) : Type 0 where
@@ -22,10 +22,10 @@ pub record Stands (left : machine.Reading State) (i : ℕ) (r : Reader) : Type 0
   pub reached : left ≡ machine.Reached i state
   pub finishes : finish (state_of r) ≡ finish state
   pub finishes_spec : finish_spec (state_of r) ≡ finish_spec state
-  pub small : load (state_of r) ≤ greatest_path
+  pub small : deepest_path (state_of r) ≤ greatest_path
 
-abbrev pub Reads : (left : machine.Reading State) → Result (Reader × ℕ) SyntaxFault → Type 0
-Reads left (Ok r) = Stands left r.1 r.0
-Reads left (Err (fault.TooDeep i)) = left ≡ machine.Deep i
-Reads left (Err (fault.NoTree i)) = ⊥
-Reads left (Err fault.NoMemory) = Unit {0}
+abbrev pub Leaves : (left : machine.Reading State) → Result (Reader × ℕ) SyntaxFault → Type 0
+Leaves left (Ok r) = Stands left r.1 r.0
+Leaves left (Err (fault.TooDeep i)) = left ≡ machine.Deep i
+Leaves left (Err (fault.NoTree i)) = ⊥
+Leaves left (Err fault.NoMemory) = Unit {0}
