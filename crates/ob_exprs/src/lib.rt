@@ -4,8 +4,19 @@
 //! more than 256 nodes. `parse_spec` does the same for specifiers. Both stop at the one place that the
 //! grammar gives, and the trees stand where their tokens do; each has one clause that says all of this.
 //!
+//! An operator-precedence parser (shift and reduce): nodes that have begun wait on a stack for their
+//! last part, and a token is shifted after those nodes are reduced that bind tighter than it. It keeps
+//! to the machine of `ob_tree`'s specs `ExprStates` and `ExprMachine`, token by token.
+//!
 //! Stands on `ob_tree` for tokens, trees and the grammar, on `ob_base` for names and want of memory,
 //! and on `ob_words` for the types of constants.
+//!
+//! To be believed: `specs/Parsed`, what an answer says, over `ob_tree`'s Fronts, Verdicts and Places.
+//! The other specs serve the proof. `DeepestPaths` counts the nodes on the paths that have begun;
+//! with it, these lemma files are the crate's laws, for the crates above: `Heights`, `Begun`, `Within`,
+//! `Shapes`, `Adding`, `Kept`, `Sound`, `SoundAfter`, `SoundSpecs`, `Filling`, `Fills`, `Complete`,
+//! `Reach`, `States`, `Exact` (the machine reads what the grammar spells, and no more) and `Views`
+//! (trees that are built from lists).
 #![tactic(auto)]
 
 pub use level::Level;
