@@ -3,8 +3,8 @@ use Rattle.std.proofs.Common.{◌≡◌, ℕ, ◌<◌, ◌≤◌, List, [], ◌�
 use Rattle.std.proofs.lemmas.Bool.{cases_lt}
 use Rattle.ob_tree.specs.Trees.{ExprTree}
 use Rattle.ob_tree.specs.Paths.{height}
-use Rattle.ob_tree.specs.ExprStates.{PendingNode, AfterOperand, right_precedence, close, reduce}
-use Rattle.ob_tree.proofs.Unreduced.{lt-yes, lt-no, top_right_precedence}
+use Rattle.ob_tree.specs.ExprStates.{PendingNode, AfterOperand, right_precedence, top_right_precedence, close, reduce}
+use Rattle.ob_tree.proofs.Unreduced.{lt-yes, lt-no}
 use Rattle.ob_exprs.specs.DeepestPaths.{depth_of, inner, deepest_path}
 use Rattle.ob_exprs.specs.View.{closed_top}
 use Rattle.ob_exprs.proofs.Heights.{depth-path}

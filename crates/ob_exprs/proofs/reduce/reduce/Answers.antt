@@ -1,6 +1,6 @@
 use Rattle.std.proofs.Common.{◌<◌, ◌∙◌, arith}
 use Rattle.ob_tree.specs.ExpressionView.{expr_tree}
-use Rattle.ob_tree.proofs.Unreduced.{top_right_precedence}
+use Rattle.ob_tree.specs.ExprStates.{top_right_precedence}
 use Rattle.ob_exprs.specs.View.{pending_nodes}
 use Rattle.ob_exprs.proofs.Turns.{turn}
 use Rattle.ob_exprs.proofs.reduce.reduce.Goals as goal
