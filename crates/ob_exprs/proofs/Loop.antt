@@ -19,6 +19,7 @@ use Rattle.ob_tree.specs.Verdicts.{Whole, NoTree, TooDeep}
 use Rattle.ob_tree.specs.ExprStates.{no_level, PendingNode, State, BeforeOperand, Specifier}
 use Rattle.ob_tree.specs.ExprMachine.{shift, finish, finish_spec}
 use Rattle.ob_tree.specs.Readings as machine
+use Rattle.ob_tree.proofs.RightReadings as right_readings
 use Rattle.ob_exprs.specs.declared.state.Mode.{Mode}
 use Rattle.ob_exprs.specs.declared.state.Mode.TheVariants as mode
 use Rattle.ob_exprs.specs.declared.reader.Reader.{Reader}
@@ -150,7 +151,7 @@ at-end ts least depth left i r e k = at-length ts least depth left r (subst (λ 
 -- the verdict on expressions
 module _ (ts : List Token) (from depth least : ℕ) (small : least ≤ 2) (all : All (λ t. IsOfSource t.kind) ts) (f : from ≤ length ts) (b : depth ≤ greatest_path) where
   expr-verdict : IsExprVerdict ts from depth least (machine.verdict finish (reading ts least depth from (BeforeOperand [])))
-  expr-verdict = machine.right _ _ _ _ _ _ from depth (run_expr (lines ts) least from) (exact-expr (lines ts) least small from depth) ts all (drop from ts) from (BeforeOperand []) refl (omega arith) f (start-run ts from least) (omega arith) (λ j h g. absurd (omega arith))
+  expr-verdict = right_readings.right _ _ _ _ _ _ from depth (run_expr (lines ts) least from) (exact-expr (lines ts) least small from depth) ts all (drop from ts) from (BeforeOperand []) refl (omega arith) f (start-run ts from least) (omega arith) (λ j h g. absurd (omega arith))
 
   pub expr-found : (i : ℕ) (r : Reader) (o : Option Expr) (e : Expr) → Stands (reading ts least depth from (BeforeOperand [])) i r → option_map expr_tree o ≡ finish (state_of r) → o ≡ Some e
       → IsExprVerdict ts from depth least (Whole (expr_tree e) i)
@@ -170,7 +171,7 @@ module _ (ts : List Token) (from depth least : ℕ) (small : least ≤ 2) (all :
 -- and on specifiers
 module _ (ts : List Token) (from depth : ℕ) (all : All (λ t. IsOfSource t.kind) ts) (f : from ≤ length ts) (b : depth ≤ greatest_path) where
   spec-verdict : IsSpecVerdict ts from depth (machine.verdict finish_spec (reading ts no_level depth from (Specifier [])))
-  spec-verdict = machine.right _ _ _ _ _ _ from depth (spec_machine (lines ts) from) (exact-spec (lines ts) from depth) ts all (drop from ts) from (Specifier []) refl (omega arith) f (start-spec ts from) (omega arith) (λ j h g. absurd (omega arith))
+  spec-verdict = right_readings.right _ _ _ _ _ _ from depth (spec_machine (lines ts) from) (exact-spec (lines ts) from depth) ts all (drop from ts) from (Specifier []) refl (omega arith) f (start-spec ts from) (omega arith) (λ j h g. absurd (omega arith))
 
   pub spec-found : (i : ℕ) (r : Reader) (o : Option Spec) (e : Spec) → Stands (reading ts no_level depth from (Specifier [])) i r → option_map spec_tree o ≡ finish_spec (state_of r) → o ≡ Some e
       → IsSpecVerdict ts from depth (Whole (spec_tree e) i)
