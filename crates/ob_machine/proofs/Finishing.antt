@@ -10,7 +10,7 @@ use Rattle.ob_model.specs.Endings.{Begins, InputEnd, closed, failed}
 use Rattle.ob_code.specs.State.{Final, State}
 use Rattle.ob_machine.specs.declared.execution.Execution.{Execution}
 use Rattle.ob_machine.specs.Buffers.{Unread}
-use Rattle.ob_machine.specs.Devices.{AreTold, Reading, Writing, IsWritten}
+use Rattle.ob_base.specs.Devices.{AreTold, Reading, Writing, IsWritten}
 use Rattle.ob_machine.specs.Exchanges.{CanFollow, Devices, KnowsEnd, RunEnds, RunFailsToRead, RunFailsToWrite, having_written, reading}
 use Rattle.ob_machine.specs.Executions.{state_of}
 use Rattle.ob_machine.specs.Finished.{ComesOut, at_start}

@@ -10,11 +10,13 @@ use Rattle.ob_code.specs.declared.image.Image.{Image}
 use Rattle.ob_code.specs.Machine.{after, runs}
 use Rattle.ob_code.specs.Rules.{IsVerified}
 use Rattle.ob_code.specs.Start as start
-use Rattle.ob_code.specs.Start.{flat_final, laid_out, most_instructions, stack_bytes, started}
+use Rattle.ob_code.specs.Start.{flat_final, laid_out, most_instructions, started}
+use Rattle.ob_model.specs.Limits.{stack_bytes}
 use Rattle.ob_code.specs.State.{Final, State}
 use Rattle.ob_machine.specs.declared.execution.Execution.{Execution}
 use Rattle.ob_machine.specs.declared.ports.Ports.{Ports}
-use Rattle.ob_machine.specs.Devices.{IsInput, Reading, Writing}
+use Rattle.ob_base.specs.Devices.{Reading, Writing}
+use Rattle.ob_machine.specs.Devices.{IsInput}
 use Rattle.ob_machine.specs.Executions.{SameRows, setup, state_of}
 use Rattle.ob_machine.specs.Finished.{Broken, ComesOut, Ended, at_start}
 use Rattle.ob_machine.specs.Machines.{ComesTo, MachineState, RunsOn}

@@ -10,7 +10,8 @@ use Rattle.ob_code.specs.declared.instructions.Instr.TheVariants.{Tick}
 use Rattle.ob_code.specs.Machine as machine
 use Rattle.ob_code.specs.Machine.{counted, entering, step}
 use Rattle.ob_code.specs.Rules.{IsVerified, instruction_at}
-use Rattle.ob_code.specs.Start.{fresh, laid_out, stack_bytes, started, with_statics}
+use Rattle.ob_code.specs.Start.{fresh, laid_out, started, with_statics}
+use Rattle.ob_model.specs.Limits.{stack_bytes}
 use Rattle.ob_code.specs.State.{Call, Setup, Space, State, goes}
 use Rattle.ob_machine.specs.Progress.{AreLinked, IsInnermost, IsLink, IsPlaced, Leads, Reaches}
 use Rattle.ob_machine.proofs.Placed as placed

@@ -48,6 +48,7 @@ pub record Moves (d d' : Devices) (read written : List ℕ) : Type 0 where
 -- all that was pending was sent, and a read gave bytes or met the end
 pub record IsRefilled (d d' : Devices) : Type 0 where
   pub moves : Moves d d' d'.unread.bytes []
+  pub nothing_pending : d'.pending ≡ []
   pub filled : IsFilled d'.unread d'.left
 
 pub record RefillFailsToRead (d d' : Devices) : Type 0 where

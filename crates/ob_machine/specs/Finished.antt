@@ -5,7 +5,8 @@ use Rattle.ob_model.specs.declared.endings.Ending.TheVariants.{WriteFault}
 use Rattle.ob_model.specs.Endings.{InputEnd}
 use Rattle.ob_code.specs.State.{Final, State}
 use Rattle.ob_machine.specs.declared.execution.Execution.{Execution}
-use Rattle.ob_machine.specs.Devices.{Reading, Writing, IsInput, IsWritten, IsCutOff}
+use Rattle.ob_base.specs.Devices.{Reading, Writing, IsWritten, IsCutOff}
+use Rattle.ob_machine.specs.Devices.{IsInput}
 use Rattle.ob_machine.specs.Executions.{Beside, state_of}
 
 -- what stands beside a run before it starts

@@ -2,7 +2,8 @@
 use Rattle.std.specs.Prelude.{◌≡◌, ℕ, ◌↔◌, List}
 use Rattle.ob_model.specs.declared.endings.Ending.TheVariants.{Spent}
 use Rattle.ob_code.specs.Rules.{IsVerified}
-use Rattle.ob_code.specs.Start.{laid_out, most_instructions, run_from, stack_bytes}
+use Rattle.ob_code.specs.Start.{laid_out, most_instructions, run_from}
+use Rattle.ob_model.specs.Limits.{stack_bytes}
 use Rattle.ob_code.specs.State.{Setup, Space, State}
 use Rattle.ob_machine.specs.Progress.{IsInnermost, Reaches}
 

@@ -6,9 +6,11 @@ use Rattle.ob_model.specs.declared.endings.Ending.TheVariants.{WriteFault}
 use Rattle.ob_model.specs.declared.settings.RunSettings.{RunSettings}
 use Rattle.ob_model.specs.Endings.{InputEnd}
 use Rattle.ob_code.specs.declared.image.Image.{Image}
-use Rattle.ob_code.specs.Start.{flat_final, laid_out, stack_bytes}
+use Rattle.ob_code.specs.Start.{flat_final, laid_out}
+use Rattle.ob_model.specs.Limits.{stack_bytes}
 use Rattle.ob_code.specs.State.{Final, Space}
-use Rattle.ob_machine.specs.Devices.{Reading, Writing, IsInput, IsWritten, IsCutOff}
+use Rattle.ob_base.specs.Devices.{Reading, Writing, IsWritten, IsCutOff}
+use Rattle.ob_machine.specs.Devices.{IsInput}
 
 -- its image and settings, what its memory holds, whether nothing was run since it was loaded or reset, and how many
 -- instructions its last run did

@@ -5,7 +5,7 @@ ghost use Rattle.ob_model.specs.declared.endings.Ending.TheVariants.{Ended};
 ghost use Rattle.ob_code.specs.Frames.{function_at};
 ghost use Rattle.ob_code.specs.Machine.{calling, get, on, ticked};
 ghost use Rattle.ob_code.specs.Rules.{AreOperandsSound, IsVerified, words_of};
-ghost use Rattle.ob_code.specs.Unbuilt.{IsBuilt, IsInstructionBuilt};
+ghost use Rattle.ob_space.specs.Unbuilt.{IsBuilt, IsInstructionBuilt};
 ghost use Rattle.ob_code.specs.State.{goes, stops};
 ghost use Rattle.ob_space.specs.Loaded.{top_words};
 ghost use Rattle.ob_machine.specs.Effects.{HasEffect, HasRoom, IsReady};

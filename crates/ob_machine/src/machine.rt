@@ -4,6 +4,7 @@ ghost use Rattle.ob_model.specs.declared.endings.Ending.TheVariants as ending;
 ghost use Rattle.ob_model.specs.Settings.{IsFit};
 ghost use Rattle.ob_code.specs.Frames.{function_at};
 ghost use Rattle.ob_code.specs.Rules.{IsVerified};
+ghost use Rattle.ob_space.specs.Unbuilt.{IsBuilt};
 ghost use Rattle.ob_code.specs.Start.{most_instructions};
 ghost use Rattle.ob_code.specs.declared.image.FunctionRow.{FunctionRow};
 ghost use Rattle.std.specs.Prelude.{ℕ};
@@ -55,9 +56,11 @@ fn most_params(functions: &[FunctionRow]) -> u32
 
 impl Machine {
     /// A fresh machine with an image: its memory is laid out, and no call is in progress. Takes all the
-    /// memory that the machine will ever take, and answers `NoMemory` where there is too little.
+    /// memory that the machine will ever take, and answers `NoMemory` where there is too little. The image
+    /// has to be one that the machine runs so far, as `ob_space::is_built` tells.
     pub fn load(alloc: Global, v: Verified, settings: &RunSettings) -> Result<Machine, NoMemory>
-        requires { IsFit settings.now }
+        requires settings { IsFit settings.now }
+        requires image { IsBuilt v }
         ensures { IfOk result (λ machine. machine ≡ loaded v settings.now) }
     {
         let space = Space::new(alloc, &v, settings)?;

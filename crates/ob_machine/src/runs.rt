@@ -2,7 +2,7 @@ ghost use Rattle.std.specs.Prelude.{◌≡◌, ◌+◌, ◌*◌, ◌<◌, ◌≤
 ghost use Rattle.ob_model.specs.declared.settings.RunSettings.{RunSettings};
 ghost use Rattle.ob_code.specs.Machine.{after, runs};
 ghost use Rattle.ob_code.specs.Rules.{IsVerified};
-ghost use Rattle.ob_code.specs.Unbuilt.{IsBuilt};
+ghost use Rattle.ob_space.specs.Unbuilt.{IsBuilt};
 ghost use Rattle.ob_code.specs.Start.{started};
 ghost use Rattle.ob_machine.specs.Buffers.{nothing_read};
 ghost use Rattle.ob_machine.specs.Effects.{HasRoom, IsReady};

@@ -2,7 +2,7 @@ ghost use Rattle.std.specs.Prelude.{◌≡◌, ◌<◌, ◌^◌, length, vec_cap
 ghost use Rattle.ob_model.specs.declared.settings.RunSettings.{RunSettings};
 ghost use Rattle.ob_code.specs.Machine.{act_on};
 ghost use Rattle.ob_code.specs.Rules.{IsVerified};
-ghost use Rattle.ob_code.specs.Unbuilt.{IsBuilt};
+ghost use Rattle.ob_space.specs.Unbuilt.{IsBuilt};
 ghost use Rattle.std.specs.Prelude.{ℕ, List, slice_get};
 ghost use Rattle.ob_machine.specs.Effects.{HasRoom, IsReady};
 ghost use Rattle.ob_machine.specs.Exchanges.{Answers, KnowsEnd, begun, devices};

@@ -3,7 +3,7 @@
 use ob_machine::Machine;
 use ob_base::{MemSink, MemSource, Source};
 use ob_code::{FunctionRow, Image, Instr, Rows, Verified, verify};
-use ob_model::{Ending, Mode, RunSettings};
+use ob_model::{Ending, Mode, Profile, RunSettings};
 use ob_words::{BinOp, IntType, Relation};
 use std::alloc::{AllocError, Global};
 use std::process::Abort;
@@ -74,6 +74,7 @@ const SETTINGS: RunSettings = RunSettings {
     store: 65_536,
     away: 65_536,
     heap: 0,
+    profile: Profile::One,
 };
 
 // Runs twice on devices that move one byte a call, with a fresh machine each time. The second run's input

@@ -22,7 +22,8 @@ use Rattle.ob_code.specs.declared.instructions.Instr.{Instr}
 use Rattle.ob_code.specs.declared.instructions.Instr.TheVariants.{Set, Binary, PutChar, Return}
 use Rattle.ob_code.specs.Frames.{entered, top_base, with_word}
 use Rattle.ob_code.specs.Machine.{act_on, after, counted, get, get_number, on, returned, runs, step}
-use Rattle.ob_code.specs.Start.{fresh, laid_out, most_instructions, run_from, stack_bytes, started}
+use Rattle.ob_code.specs.Start.{fresh, laid_out, most_instructions, run_from, started}
+use Rattle.ob_model.specs.Limits.{stack_bytes}
 use Rattle.ob_code.specs.State.{Call, Final, Setup, Space, State, goes}
 use Rattle.ob_space.specs.Kept.{HasStack}
 use Rattle.ob_space.specs.Writes.{IsOnStack, WritesWord}

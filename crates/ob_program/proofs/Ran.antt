@@ -8,7 +8,7 @@ use Rattle.ob_model.specs.Endings.{InputEnd}
 use Rattle.ob_model.specs.Settings.{IsFit}
 use Rattle.ob_code.specs.declared.image.Image.{Image}
 use Rattle.ob_code.specs.Start.{flat_final, flat_instructions}
-use Rattle.ob_machine.specs.Devices.{Reading, Writing}
+use Rattle.ob_base.specs.Devices.{Reading, Writing}
 use Rattle.ob_machine.specs.Machines.{ComesTo, MachineState, Runs, loaded}
 use Rattle.ob_program.specs.Answer.{FormGives, Output, RanToEnd, WasCutOff, ending_answer}
 use Rattle.ob_program.specs.FirstCode.{first_code, only_main}

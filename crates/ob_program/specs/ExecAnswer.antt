@@ -13,7 +13,7 @@ use Rattle.ob_code.specs.declared.faults.Part.TheVariants as part
 use Rattle.ob_code.specs.declared.image.Image.{Image}
 use Rattle.ob_code.specs.FirstFault.{IsFirstFault, IsRunnable}
 use Rattle.ob_image.specs.Faults.{IsFirstWrong, Spells}
-use Rattle.ob_machine.specs.Devices.{Reading, Writing}
+use Rattle.ob_base.specs.Devices.{Reading, Writing}
 use Rattle.ob_machine.specs.Machines.{MachineState, Runs, loaded}
 use Rattle.ob_program.specs.declared.exec_answer.ExecAnswer.{ExecAnswer}
 use Rattle.ob_program.specs.declared.exec_answer.ExecAnswer.TheVariants.{FileFault, FileLong, BadImage, Ran, NoMemory}

@@ -1,5 +1,5 @@
 use Rattle.std.proofs.Common.{ap, ◌∙◌, subst}
-use Rattle.ob_machine.specs.Devices.{Reading, Writing}
+use Rattle.ob_base.specs.Devices.{Reading, Writing}
 use Rattle.ob_machine.specs.Machines.{Runs, loaded}
 use Rattle.ob_program.specs.Settings.{usual}
 use Rattle.ob_program.proofs.exec.run_bytes.Goals as goal

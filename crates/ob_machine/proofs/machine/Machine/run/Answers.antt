@@ -1,6 +1,6 @@
 use Rattle.std.proofs.Common.{◌≡◌, ◌+◌, ◌*◌, true, [], ◌∷◌, length, ap, ◌∙◌, subst, arith}
 use Rattle.ob_code.specs.Start.{most_instructions}
-use Rattle.ob_machine.specs.Devices.{Reading, Writing}
+use Rattle.ob_base.specs.Devices.{Reading, Writing}
 use Rattle.ob_machine.specs.Finished.{ComesOut}
 use Rattle.ob_machine.specs.Machines.{RunsOn}
 use Rattle.ob_machine.proofs.Launched.{given, machine_after, no_memory, read_cause, run_of, runs_on, unused_calls, unused_numbered, within_bound, write_cause}
