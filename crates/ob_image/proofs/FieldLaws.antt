@@ -1,16 +1,15 @@
 -- The readers of fields, and their spellings.
-use Rattle.std.proofs.Common.{◌≡◌, ℕ, zero, suc, ◌-◌, ◌<◌, ◌≤◌, Bool, true, false, List, [], ◌∷◌, ◌++◌, length, get_or, take, drop, Ok, refl, sym, ap, subst, ◌∙◌, arith, inl, inr, eqb, eq-eqb}
-use Rattle.std.specs.Prelude.{◌==◌, ◌&&◌, nat_le}
-use Rattle.std.proofs.lemmas.Bool.{cases_lt, eqb-true, eqb-false, leb-true, le-leb}
+use Rattle.std.proofs.Common.{◌≡◌, ℕ, zero, suc, ◌-◌, ◌<◌, ◌≤◌, List, [], ◌∷◌, ◌++◌, length, get_or, take, drop, Ok, refl, sym, ap, subst, ◌∙◌, arith, inl, inr, eqb, eq-eqb}
+use Rattle.std.specs.Prelude.{◌==◌}
+use Rattle.std.proofs.lemmas.Bool.{cases_lt, eqb-true, eqb-false}
 use Rattle.std.proofs.lemmas.List.{take-append-drop, length-take-le}
 use Rattle.ob_words.specs.Fields.{low_bytes}
-use Rattle.ob_image.specs.Layout.{any_word, any_number, operations}
-use Rattle.ob_image.specs.Reading.{one, gives, exactly, number, given, operation, ◌>>=◌}
+use Rattle.ob_image.specs.Layout.{any_word, any_number}
+use Rattle.ob_image.specs.Reading.{gives, exactly, number, given, ◌>>=◌}
 use Rattle.ob_image.specs.Spelling.{EndsNonzero}
-use Rattle.ob_image.proofs.Digits.{byte_is}
 use Rattle.ob_image.proofs.Givens.{given_short, given_zero, given_all}
-use Rattle.ob_image.proofs.Readers.{IsBytes, IsBytes-front, IsReader, one_reader, then_reader, gives_reader, done, ok_is, yes, no, tested, one_passes, one_refuses}
-use Rattle.ob_image.proofs.Spellings.{IsSpelled, then_sound, then_again, number_spelled}
+use Rattle.ob_image.proofs.Readers.{IsBytes, IsBytes-front, IsReader, one_reader, then_reader, gives_reader, done, ok_is, yes, no, tested}
+use Rattle.ob_image.proofs.Spellings.{IsSpelled, then_sound, then_again, number_spelled, one_spelled}
 
 pub word_spelled : IsSpelled (number 4 any_word) (λ n. n ≤ any_word) (low_bytes 4)
 word_spelled = number_spelled 4 any_word (omega arith)
@@ -26,51 +25,6 @@ word_field limit small = number_spelled 4 limit small
 
 pub long_field : (limit : ℕ) → limit < 18446744073709551616 → IsSpelled (number 8 limit) (λ n. n ≤ limit) (low_bytes 8)
 long_field limit small = number_spelled 8 limit small
-
--- ---- one byte
-
-one_sound : (test : ℕ → Bool) (bytes : List ℕ) (x : ℕ) (rest : List ℕ) → IsBytes bytes → one test bytes ≡ Ok (x, rest) → ((test x ≡ true) × (x < 256)) × (bytes ≡ x ∷ rest)
-unfolding one
-one_sound test [] x rest fits e = absurd cc
-one_sound test (b ∷ bytes) x rest fits e =
-    elim (tested (test b)) [
-      | yes t ↦
-          subst (λ (p : ℕ × List ℕ). ((test p.0 ≡ true) × (p.0 < 256)) × (b ∷ bytes ≡ p.0 ∷ p.1)) (ok_is (b, bytes) (x, rest) (sym (one_passes test b bytes t) ∙ e)) ((t, fits.0), refl)
-      | no t ↦ let g = sym (one_refuses test b bytes t) ∙ e in absurd cc
-    ]
-
-one_spelled : (test : ℕ → Bool) → IsSpelled (one test) (λ b. (test b ≡ true) × (b < 256)) (λ b. b ∷ [])
-one_spelled test = record { sound = one_sound test; again = λ b rest is. one_passes test b rest is.0 }
-
-pub both : (s t : Bool) → (s && t) ≡ true → (s ≡ true) × (t ≡ true)
-both true true e = (refl, refl)
-both true false e = absurd cc
-both false t e = absurd cc
-
-both_are : (s t : Bool) → s ≡ true → t ≡ true → (s && t) ≡ true
-both_are true true d e = refl
-both_are true false d e = absurd cc
-both_are false t d e = absurd cc
-
-abbrev pub IsOperation : ℕ → Type 0
-IsOperation op = (1 ≤ op) × (op ≤ operations)
-
-pub operation_spelled : IsSpelled operation IsOperation (low_bytes 1)
-unfolding operation
-operation_spelled = record {
-  sound = λ bytes x rest fits e.
-      let s = one_sound (λ b. nat_le 1 b && nat_le b operations) bytes x rest fits e in
-      let t = both (nat_le 1 x) (nat_le x operations) s.0.0 in
-      ((leb-true 1 x t.0, leb-true x operations t.1), s.1 ∙ ap (λ (l : List ℕ). l ++ rest) (byte_is x s.0.1));
-  again = λ x rest is.
-      let small : x < 256 = omega (arith, is.1) in
-      ap (λ (l : List ℕ). one (λ b. nat_le 1 b && nat_le b operations) (l ++ rest)) (sym (byte_is x small))
-      ∙ one_passes (λ b. nat_le 1 b && nat_le b operations) x rest (both_are (nat_le 1 x) (nat_le x operations) (le-leb 1 x is.0) (le-leb x operations is.1));
-}
-
-pub operation_reader : IsReader operation
-unfolding operation
-operation_reader = one_reader (record { byte = 1; fits = omega arith; passes = refl })
 
 -- ---- these bytes
 

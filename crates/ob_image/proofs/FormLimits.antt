@@ -13,7 +13,7 @@ use Rattle.ob_image.specs.declared.layout.Limits.{Limits}
 use Rattle.ob_image.specs.Instructions.{instruction, instructions}
 use Rattle.ob_image.specs.Layout.{any_word, any_number, up_to, fields_of, limits_of, all_limits, AreFields, HasNumber, IsInstruction}
 use Rattle.ob_image.specs.Rules.{InstructionRule}
-use Rattle.ob_image.proofs.FieldLaws.{both}
+use Rattle.ob_image.proofs.Tests.{both}
 use Rattle.ob_image.proofs.Forms.{fields_back}
 use Rattle.ob_image.proofs.KindNumbers.{type_most, kind_most, operator_most, relation_most, ordering_most}
 

@@ -4,9 +4,10 @@ use Rattle.ob_words.specs.Fields.{low_bytes}
 use Rattle.ob_code.specs.declared.instructions.Instr.{Instr}
 use Rattle.ob_image.specs.declared.layout.Fields.{Fields}
 use Rattle.ob_image.specs.Instructions.{instruction}
-use Rattle.ob_image.specs.Layout.{fields, fields_of, limits_of, spell_fields, spell_instruction, AreFields, IsInstruction}
-use Rattle.ob_image.specs.Reading.{gives, number, operands_row, fields_row, instruction_row}
-use Rattle.ob_image.proofs.FieldLaws.{byte_field, word_field, long_field, operation_spelled, operation_reader}
+use Rattle.ob_image.specs.Layout.{fields, fields_of, limits_of, operations, spell_fields, spell_instruction, AreFields, IsInstruction}
+use Rattle.ob_image.specs.Reading.{gives, number, from_one, operands_row, fields_row, instruction_row}
+use Rattle.ob_image.proofs.FieldLaws.{byte_field, word_field, long_field}
+use Rattle.ob_image.proofs.Heads.{IsFromOne, from_one_reader, from_one_spelled}
 use Rattle.ob_image.proofs.FormLimits.{fields_are, narrow}
 use Rattle.ob_image.proofs.Forms.{none, instruction_back, fields_back}
 use Rattle.ob_image.proofs.Readers.{IsBytes, IsReader, then_reader, gives_reader, number_reader, done, ok_is}
@@ -21,7 +22,10 @@ operands_reader op kind =
 fields_reader : IsReader fields_row
 unfolding fields_row
 fields_reader =
-    then_reader operation_reader (λ op. then_reader (number_reader 1 (limits_of op).kind) (λ kind. then_reader (number_reader 2 0) (λ zeros. operands_reader op kind)))
+    then_reader (from_one_reader operations (omega arith)) (λ op. then_reader (number_reader 1 (limits_of op).kind) (λ kind. then_reader (number_reader 2 0) (λ zeros. operands_reader op kind)))
+
+operation_spelled : IsSpelled (from_one operations) (IsFromOne operations) (low_bytes 1)
+operation_spelled = from_one_spelled operations (omega arith)
 
 zeros_spelled : IsSpelled (number 2 0) (λ n. n ≤ 0) (low_bytes 2)
 zeros_spelled = number_spelled 2 0 (omega arith)

@@ -3,11 +3,16 @@ mod FieldLaws
 mod FormLimits
 mod Forms
 mod Givens
+mod Heads
 mod InstructionLaws
 mod KindNumbers
 mod Loops
+mod NameLaws
+mod NameReads
 mod Readers
 mod RowLaws
 mod Spellings
+mod Tests
 mod Verified
+mod Versions
 mod Wholes

@@ -50,7 +50,7 @@ pub record Stops {A : Type 0} (read : Reader A) (bytes : List ℕ) (left : ℕ) 
 
 pub record IsReader {A : Type 0} (read : Reader A) : Type 0 where
   pub takes : (bytes : List ℕ) (x : A) (rest : List ℕ) → read bytes ≡ Ok (x, rest) → Takes read bytes x rest
-  pub stops : (bytes : List ℕ) (left : ℕ) → read bytes ≡ Err left → Stops read bytes left
+  pub stops : (bytes : List ℕ) (left : ℕ) → IsBytes bytes → read bytes ≡ Err left → Stops read bytes left
 
 -- ---- results
 
@@ -94,7 +94,7 @@ whole read is =
           let none = no_append t.taken rest t.parts in
           record { text = []; value = x; are_bytes = tt; whole = e ∙ ap (λ (r : List ℕ). done (x, r)) none.1 }
       | stuck left e ↦
-          let s = is.stops [] left e in
+          let s = is.stops [] left tt e in
           let none = no_append s.seen s.rest s.parts in
           record {
             text = s.open_.next ∷ s.open_.more;
@@ -123,7 +123,7 @@ gives_reader x = record {
         parts = ap (λ (p : _ × List ℕ). p.1) same;
         again = λ more. ap (λ (p : _ × List ℕ). done (p.0, more)) same;
       };
-  stops = λ bytes left e. absurd cc;
+  stops = λ bytes left fits e. absurd cc;
 }
 
 pub chained_ok : {A B : Type 0} (read : Reader A) (next : A → Reader B) (bytes : List ℕ) (x : A) (rest : List ℕ) → read bytes ≡ Ok (x, rest) → (read >>= next) bytes ≡ next x rest
@@ -195,12 +195,15 @@ then_reader {read = read} {next = next} is are = record {
         | found x middle f ↦ then_takes read next bytes x middle y rest (is.takes bytes x middle f) ((are x).takes middle y rest (sym (chained_ok read next bytes x middle f) ∙ e))
         | stuck left f ↦ let g = sym (chained_err read next bytes left f) ∙ e in absurd cc
       ];
-  stops = λ bytes left e.
+  stops = λ bytes left fits e.
       elim (answered (read bytes)) [
-        | found x middle f ↦ behind_stops read next bytes x middle left (is.takes bytes x middle f) ((are x).stops middle left (sym (chained_ok read next bytes x middle f) ∙ e))
+        | found x middle f ↦
+            let t = is.takes bytes x middle f in
+            let small : IsBytes middle = IsBytes-behind t.taken middle (subst IsBytes t.parts fits) in
+            behind_stops read next bytes x middle left t ((are x).stops middle left small (sym (chained_ok read next bytes x middle f) ∙ e))
         | stuck here f ↦
             let same = err_is _ here left (sym (chained_err read next bytes here f) ∙ e) in
-            subst (Stops (read >>= next) bytes) same (then_stops read next bytes here is are (is.stops bytes here f))
+            subst (Stops (read >>= next) bytes) same (then_stops read next bytes here is are (is.stops bytes here fits f))
       ];
 }
 
@@ -243,11 +246,11 @@ one_takes test (b ∷ bytes) x rest e =
       | no t ↦ let g = sym (one_refuses test b bytes t) ∙ e in absurd cc
     ]
 
-one_stops : (test : ℕ → Bool) → HasByte test → (bytes : List ℕ) (left : ℕ) → one test bytes ≡ Err left → Stops (one test) bytes left
+one_stops : (test : ℕ → Bool) → HasByte test → (bytes : List ℕ) (left : ℕ) → IsBytes bytes → one test bytes ≡ Err left → Stops (one test) bytes left
 unfolding one
-one_stops test h [] left e =
+one_stops test h [] left fits e =
     record { seen = []; rest = []; parts = refl; count = err_is ℕ 0 left e; open_ = one_completes test h; shut = λ wrong after f other. absurd cc }
-one_stops test h (b ∷ bytes) left e =
+one_stops test h (b ∷ bytes) left fits e =
     elim (tested (test b)) [
       | yes t ↦ let g = sym (one_passes test b bytes t) ∙ e in absurd cc
       | no t ↦

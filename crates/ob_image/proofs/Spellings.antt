@@ -1,5 +1,5 @@
 -- What a reader reads is spelled so, and what is spelled so is read.
-use Rattle.std.proofs.Common.{◌≡◌, ℕ, zero, suc, ◌+◌, ◌-◌, ◌*◌, ◌/◌, ◌%◌, ◌^◌, ◌<◌, ◌≤◌, true, List, [], ◌∷◌, ◌++◌, length, Ok, refl, sym, ap, subst, ◌∙◌, append_assoc, arith}
+use Rattle.std.proofs.Common.{◌≡◌, ℕ, zero, suc, ◌+◌, ◌-◌, ◌*◌, ◌/◌, ◌%◌, ◌^◌, ◌<◌, ◌≤◌, Bool, true, List, [], ◌∷◌, ◌++◌, length, Ok, refl, sym, ap, subst, ◌∙◌, append_assoc, arith}
 use Rattle.std.specs.Prelude.{nat_le}
 use Rattle.std.specs.List.{AllByRecursion, flat_map}
 use Rattle.std.proofs.lemmas.Bool.{le-leb, leb-true}
@@ -44,6 +44,21 @@ then_again {read = read} {spell = spell} next spelled x rest is = chained_ok rea
 
 pub along : (xs ys zs : List ℕ) → ys ≡ zs → xs ++ ys ≡ xs ++ zs
 along xs ys zs e = ap (λ (r : List ℕ). xs ++ r) e
+
+-- ---- one byte
+
+pub one_sound : (test : ℕ → Bool) (bytes : List ℕ) (x : ℕ) (rest : List ℕ) → IsBytes bytes → one test bytes ≡ Ok (x, rest) → ((test x ≡ true) × (x < 256)) × (bytes ≡ x ∷ rest)
+unfolding one
+one_sound test [] x rest fits e = absurd cc
+one_sound test (b ∷ bytes) x rest fits e =
+    elim (tested (test b)) [
+      | yes t ↦
+          subst (λ (p : ℕ × List ℕ). ((test p.0 ≡ true) × (p.0 < 256)) × (b ∷ bytes ≡ p.0 ∷ p.1)) (ok_is (b, bytes) (x, rest) (sym (one_passes test b bytes t) ∙ e)) ((t, fits.0), refl)
+      | no t ↦ let g = sym (one_refuses test b bytes t) ∙ e in absurd cc
+    ]
+
+pub one_spelled : (test : ℕ → Bool) → IsSpelled (one test) (λ b. (test b ≡ true) × (b < 256)) (λ b. b ∷ [])
+one_spelled test = record { sound = one_sound test; again = λ b rest is. one_passes test b rest is.0 }
 
 -- ---- numbers
 
@@ -100,7 +115,7 @@ number_spelled size limit wide = record { sound = number_sound size limit; again
 
 -- ---- rows
 
-rows_sound : {A : Type 0} (read : Reader A) (Is : A → Type 0) (spell : A → List ℕ) → IsSpelled read Is spell → (n : ℕ) (bytes : List ℕ) (xs : List A) (rest : List ℕ)
+pub rows_sound : {A : Type 0} (read : Reader A) (Is : A → Type 0) (spell : A → List ℕ) → IsSpelled read Is spell → (n : ℕ) (bytes : List ℕ) (xs : List A) (rest : List ℕ)
     → IsBytes bytes → rows read n bytes ≡ Ok (xs, rest) → (length xs ≡ n) × AllByRecursion Is xs × (bytes ≡ flat_map spell xs ++ rest)
 unfolding rows gives
 rows_sound read Is spell spelled zero bytes xs rest fits e =
@@ -116,7 +131,7 @@ rows_sound read Is spell spelled (suc n) bytes xs rest fits e =
       | stuck left f ↦ let g = sym (ap (chained (λ others. gives (a.value ∷ others))) f) ∙ a.goes in absurd cc
     ]
 
-rows_again : {A : Type 0} (read : Reader A) (Is : A → Type 0) (spell : A → List ℕ) → IsSpelled read Is spell → (xs : List A) (rest : List ℕ)
+pub rows_again : {A : Type 0} (read : Reader A) (Is : A → Type 0) (spell : A → List ℕ) → IsSpelled read Is spell → (xs : List A) (rest : List ℕ)
     → AllByRecursion Is xs → rows read (length xs) (flat_map spell xs ++ rest) ≡ Ok (xs, rest)
 unfolding rows gives
 rows_again read Is spell spelled [] rest all = refl

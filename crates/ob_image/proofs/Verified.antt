@@ -1,7 +1,14 @@
--- A verified image keeps what the format asks beyond the types of its fields. So it has a spelling.
-use Rattle.std.proofs.Common.{◌≡◌, ℕ, zero, suc, ◌+◌, ◌-◌, ◌<◌, ◌≤◌, List, [], ◌∷◌, ◌++◌, length, take, get_or, refl, sym, subst, arith, inl, inr}
+-- A verified image keeps what the format asks beyond the types of its fields. So it has a spelling in version 2.
+use Rattle.std.proofs.Common.{◌≡◌, ℕ, zero, suc, ◌+◌, ◌-◌, ◌<◌, ◌≤◌, Bool, true, false, List, [], ◌∷◌, ◌++◌, length, take, get_or, refl, sym, subst, arith, inl, inr}
 use Rattle.std.specs.Prelude.{slice_index_or}
-use Rattle.std.specs.List.{AllByRecursion}
+use Rattle.std.specs.Prelude.{◌&&◌, ◌||◌, not}
+use Rattle.std.specs.List.{AllByRecursion, list_all, list_any}
+use Rattle.std.specs.Str.{bytes_eq}
+use Rattle.std.proofs.lemmas.Slice.Eq.{bytes_eq-Decides}
+use Rattle.ob_base.specs.Names.{is_letter, is_digit, is_name_byte, is_reserved, reserved_words, begins_with, IsName}
+use Rattle.ob_code.specs.Names as verified
+use Rattle.ob_image.proofs.Readers.{yes, no, tested}
+use Rattle.ob_image.proofs.Tests.{both_are}
 use Rattle.std.proofs.lemmas.Bool.{cases_lt}
 use Rattle.std.proofs.Math.Seq.{take-suc}
 use Rattle.ob_code.specs.declared.image.FunctionRow.{FunctionRow}
@@ -9,11 +16,12 @@ use Rattle.ob_code.specs.declared.image.Image.{Image}
 use Rattle.ob_code.specs.declared.instructions.Instr.{Instr}
 use Rattle.ob_code.specs.declared.instructions.Instr.TheVariants.{Tick, Set, Move, Convert, Binary, Compare, Jump, JumpZero, JumpNonzero, Call, Return, Static, Local, Wipe, Load, Store, Slide, SlideBy, Shift, Same, Order, Difference, GetChar, PutChar, Malloc, Calloc, Free, Exit}
 use Rattle.ob_code.specs.Frames.{no_function}
-use Rattle.ob_code.specs.Rules.{IsVerified, AreFunctionsSound, IsFrameSound, IsCodeOf, AreOperandsSound, instruction_at, local_at, no_static}
+use Rattle.ob_code.specs.Rules.{IsVerified, AreFunctionsSound, IsFrameSound, IsCodeOf, AreOperandsSound, IsNameRowSound, instruction_at, local_at, no_static, no_name}
 use Rattle.ob_code.proofs.CodeRanges.{code_end_cases}
 use Rattle.ob_image.specs.Layout.{any_word, IsInstruction}
-use Rattle.ob_image.specs.Rules.{StaticRule, FunctionRule, InstructionRule, NoRule, IsTyped}
-use Rattle.ob_image.specs.Spelling.{IsStatic, IsPointer, IsFunction, IsImage}
+use Rattle.ob_image.specs.declared.layout.Version.TheVariants.{Two}
+use Rattle.ob_image.specs.Rules.{StaticRule, FunctionRule, InstructionRule, NameRule, NoRule, IsTyped}
+use Rattle.ob_image.specs.Spelling.{IsStatic, IsPointer, IsFunction, IsNameRow, IsImage}
 
 -- ---- rows
 
@@ -130,15 +138,60 @@ code_rules image v =
     all_rows InstructionRule Tick image.code (λ i lt.
     let h = holder image v.functions i lt in ordering image h.function (instruction_at image i) (v.code.each i lt h.function h.holds).operands)
 
+-- ---- names
+
+-- what `verify` calls a name is one: it compares a word with the text, and not the text with a word
+reserved_so : (words : List (List ℕ)) (text : List ℕ) → list_any (bytes_eq text) words ≡ true → list_any (λ word. bytes_eq word text) words ≡ true
+reserved_so [] text e = absurd cc
+reserved_so (w ∷ words) text e =
+    elim (tested (bytes_eq text w)) [
+      | yes t ↦ rw ((bytes_eq-Decides w text).1 (sym ((bytes_eq-Decides text w).0 t))) refl
+      | no t ↦ or_right (bytes_eq w text) (list_any (λ word. bytes_eq word text) words) (reserved_so words text (rw t at e))
+    ] where
+      or_right : (s t : Bool) → t ≡ true → (s || t) ≡ true
+      or_right true t e = refl
+      or_right false t e = e
+
+not_so : (r : Bool) → (r ≡ true → ⊥) → not r ≡ true
+not_so true h = absurd (h refl)
+not_so false h = refl
+
+letter_so : (text : List ℕ) → verified.begins_with_letter text ≡ true → begins_with is_letter text ≡ true
+unfolding is_letter
+letter_so [] e = e
+letter_so (c ∷ text) e = e
+
+bytes_so : (text : List ℕ) → list_all verified.is_name_byte text ≡ true → list_all is_name_byte text ≡ true
+unfolding is_name_byte is_letter is_digit
+bytes_so text e = e
+
+unreserved_so : (text : List ℕ) → (verified.is_reserved text ≡ true → ⊥) → not (is_reserved text) ≡ true
+unfolding verified.reserved_words
+unreserved_so text h = not_so (is_reserved text) (λ e. h (reserved_so reserved_words text e))
+
+name_so : (text : List ℕ) → verified.IsName text → IsName text
+name_so text is =
+    both_are (begins_with is_letter text) (list_all is_name_byte text && not (is_reserved text)) (letter_so text is.first)
+    (both_are (list_all is_name_byte text) (not (is_reserved text)) (bytes_so text is.letters) (unreserved_so text is.unreserved))
+
+-- a name is at most as long as `verify` says, and so its length is a number of four bytes
+name_rule : (image : Image) (i : ℕ) → IsNameRowSound image i → NameRule (slice_index_or image.names i no_name)
+name_rule image i s = (s.kind, omega (arith, s.short), name_so (slice_index_or image.names i no_name).name s.name)
+
+name_rules : (image : Image) → IsVerified image → AllByRecursion NameRule image.names
+name_rules image v = all_rows NameRule no_name image.names (λ i lt. name_rule image i (v.names.each i lt))
+
 -- ---- the whole image
 
 pub has_spelling : (image : Image) → AllByRecursion (IsTyped StaticRule IsStatic) image.statics → AllByRecursion (IsTyped NoRule IsPointer) image.pointers
     → AllByRecursion (IsTyped FunctionRule IsFunction) image.functions → image.main ≤ any_word → AllByRecursion (IsTyped InstructionRule IsInstruction) image.code
-    → IsVerified image → IsImage image
-has_spelling image statics pointers functions main code v = record {
+    → AllByRecursion (IsTyped NameRule IsNameRow) image.names → IsVerified image → IsImage Two image
+has_spelling image statics pointers functions main code names v = record {
+  profile = tt;
   statics = record { most = v.statics.most; each = by_rule StaticRule IsStatic image.statics statics (static_rules image v) };
   pointers = record { most = v.pointers.most; each = by_no_rule IsPointer image.pointers pointers };
   functions = record { most = v.functions.rows.most; each = by_rule FunctionRule IsFunction image.functions functions (function_rules image v) };
   main = main;
   code = record { most = v.code.most; each = by_rule InstructionRule IsInstruction image.code code (code_rules image v) };
+  names = record { most = v.names.most; each = by_rule NameRule IsNameRow image.names names (name_rules image v) };
 }

@@ -2,19 +2,24 @@
 use Rattle.std.specs.Prelude.{◌≡◌, ℕ, ◌+◌, ◌<◌, ◌≤◌, List, ◌++◌, length, take, Result, Ok, Err}
 use Rattle.ob_code.specs.declared.image.Image.{Image}
 use Rattle.ob_image.specs.Spelling.{spell_image, IsImage}
+use Rattle.ob_image.specs.declared.layout.Version.{Version}
 use Rattle.ob_image.specs.declared.faults.ImageFault.{ImageFault}
 use Rattle.ob_image.specs.declared.faults.ImageFault.TheVariants as faults
 
--- the bytes are an image's spelling
-abbrev pub Spells : List ℕ → Image → Type 0
-Spells bytes image = IsImage image × (bytes ≡ spell_image image)
+-- the bytes are the image's spelling in a version
+abbrev pub SpellsIn : Version → List ℕ → Image → Type 0
+SpellsIn v bytes image = IsImage v image × (bytes ≡ spell_image v image)
 
--- some image's spelling begins with the bytes
+-- they are its spelling in one of both versions
+abbrev pub Spells : List ℕ → Image → Type 0
+Spells bytes image = (v : Version) × SpellsIn v bytes image
+
+-- some image's spelling in one of both versions begins with the bytes
 abbrev pub IsBegun : List ℕ → Type 0
 IsBegun bytes = (image : Image) × (rest : List ℕ) × Spells (bytes ++ rest) image
 
--- the least place such that no image's spelling begins with the bytes up to and including it, or the length where the bytes are
--- a proper prefix of one
+-- the least place such that no image's spelling in either version begins with the bytes up to and including it, or the length
+-- where the bytes are a proper prefix of one
 pub record IsFirstWrong (bytes : List ℕ) (at : ℕ) : Type 0 where
   pub within : at ≤ length bytes
   pub before : IsBegun (take at bytes)

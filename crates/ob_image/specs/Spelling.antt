@@ -1,13 +1,22 @@
--- The spelling of an image: head, static objects, pointers, functions, the first function, code. All numbers have their lowest
--- byte first, and each list begins with its count.
-use Rattle.std.specs.Prelude.{◌≢◌, ℕ, ◌-◌, ◌<◌, ◌≤◌, List, [], ◌∷◌, ◌++◌, length, slice_index}
+-- The two spellings of an image, one in each version of the format: head, static objects, pointers, functions, the first function,
+-- code, and in version 2 the profile in the head and the names of variables at the end. All numbers have their lowest byte first,
+-- and each list begins with its count.
+use Rattle.std.specs.Prelude.{◌≡◌, ◌≢◌, ℕ, ◌-◌, ◌<◌, ◌≤◌, List, [], ◌++◌, length, slice_index, codes}
 use Rattle.std.specs.List.{flat_map, AllByRecursion}
 use Rattle.ob_words.specs.Fields.{low_bytes}
 use Rattle.ob_code.specs.declared.image.FunctionRow.{FunctionRow}
 use Rattle.ob_code.specs.declared.image.Image.{Image}
 use Rattle.ob_code.specs.declared.image.LocalRow.{LocalRow}
+use Rattle.ob_code.specs.declared.image.NameRow.{NameRow}
 use Rattle.ob_code.specs.declared.image.PointerRow.{PointerRow}
 use Rattle.ob_code.specs.declared.image.StaticRow.{StaticRow}
+use Rattle.ob_model.specs.Limits.{most_object_bytes}
+use Rattle.ob_code.specs.Limits.{most_statics, most_pointers, most_functions, most_variables, most_instructions, most_names}
+use Rattle.ob_base.specs.Names.{IsName}
+use Rattle.ob_image.specs.declared.layout.Version.{Version}
+use Rattle.ob_image.specs.declared.layout.Version.TheVariants as version
+use Rattle.ob_model.specs.declared.settings.Profile.{Profile}
+use Rattle.ob_model.specs.declared.settings.Profile.TheVariants as profile
 use Rattle.ob_image.specs.Layout.{any_word, any_number, spell_instruction, IsInstruction}
 
 -- ---- rows
@@ -31,16 +40,39 @@ spell_function row =
     low_bytes 4 row.entry ++ (low_bytes 4 row.params ++ (low_bytes 4 row.words ++ (low_bytes 4 row.vars ++
     (low_bytes 8 row.allowance ++ spell_rows spell_local row.locals))))
 
+-- kinds are numbered as in instructions, and arrays and structures come after them
+unfoldable pub spell_name : NameRow → List ℕ
+spell_name row =
+    low_bytes 4 row.holder ++ (low_bytes 4 row.ordinal ++ (low_bytes 4 row.line ++ (low_bytes 4 row.word ++ (low_bytes 4 row.kind ++
+    (low_bytes 4 (length row.name) ++ row.name)))))
+
 -- ---- the image
 
--- the letters OBLV, and version 1 in four bytes
-abbrev pub head : List ℕ
-head = 79 ∷ 66 ∷ 76 ∷ 86 ∷ 1 ∷ 0 ∷ 0 ∷ 0 ∷ []
+abbrev pub letters : List ℕ
+letters = codes "OBLV"
 
-unfoldable pub spell_image : Image → List ℕ
-spell_image image =
-    head ++ (spell_rows spell_static image.statics ++ (spell_rows spell_pointer image.pointers ++
-    (spell_rows spell_function image.functions ++ (low_bytes 4 image.main ++ spell_rows spell_instruction image.code))))
+abbrev pub version_number : Version → ℕ
+version_number version.One = 1
+version_number version.Two = 2
+
+abbrev pub profile_number : Profile → ℕ
+profile_number profile.One = 1
+profile_number profile.Two = 2
+
+-- version 1 tells neither the profile nor names
+abbrev pub spell_profile : Version → Profile → List ℕ
+spell_profile version.One p = []
+spell_profile version.Two p = low_bytes 4 (profile_number p)
+
+abbrev pub spell_names : Version → List NameRow → List ℕ
+spell_names version.One names = []
+spell_names version.Two names = spell_rows spell_name names
+
+unfoldable pub spell_image : Version → Image → List ℕ
+spell_image v image =
+    letters ++ (low_bytes 4 (version_number v) ++ (spell_profile v image.profile ++ (spell_rows spell_static image.statics ++
+    (spell_rows spell_pointer image.pointers ++ (spell_rows spell_function image.functions ++ (low_bytes 4 image.main ++
+    (spell_rows spell_instruction image.code ++ spell_names v image.names)))))))
 
 -- ---- what has a spelling
 
@@ -55,7 +87,7 @@ EndsNonzero given = 0 < length given → slice_index given (length given - 1) �
 
 pub record IsStatic (row : StaticRow) : Type 0 where
   pub size : row.size ≤ any_number
-  pub most : length row.given ≤ 4194304
+  pub most : length row.given ≤ most_object_bytes
   pub bytes : AllByRecursion (λ b. b < 256) row.given
   pub last : EndsNonzero row.given
 
@@ -76,12 +108,35 @@ pub record IsFunction (row : FunctionRow) : Type 0 where
   pub words : row.words ≤ any_word
   pub vars : row.vars ≤ any_word
   pub allowance : row.allowance ≤ any_number
-  pub locals : AreRows 524288 IsLocal row.locals
+  pub locals : AreRows most_variables IsLocal row.locals
 
--- the numbers of an image are within their fields, and its counts within their limits
-pub record IsImage (image : Image) : Type 0 where
-  pub statics : AreRows 262144 IsStatic image.statics
-  pub pointers : AreRows 524288 IsPointer image.pointers
-  pub functions : AreRows 65536 IsFunction image.functions
+abbrev pub most_kind : ℕ
+most_kind = 12
+
+pub record IsNameRow (row : NameRow) : Type 0 where
+  pub holder : row.holder ≤ any_word
+  pub ordinal : row.ordinal ≤ any_word
+  pub line : row.line ≤ any_word
+  pub word : row.word ≤ any_word
+  pub kind : row.kind ≤ most_kind
+  pub most : length row.name ≤ any_word
+  pub name : IsName row.name
+
+-- version 1 has the images of profile 1 without names
+abbrev pub HasProfile : Version → Profile → Type 0
+HasProfile version.One p = p ≡ profile.One
+HasProfile version.Two p = Unit {0}
+
+abbrev pub AreNames : Version → List NameRow → Type 0
+AreNames version.One names = names ≡ []
+AreNames version.Two names = AreRows most_names IsNameRow names
+
+-- the numbers of an image are within their fields, its counts within their limits, and the version can tell its profile and names
+pub record IsImage (v : Version) (image : Image) : Type 0 where
+  pub profile : HasProfile v image.profile
+  pub statics : AreRows most_statics IsStatic image.statics
+  pub pointers : AreRows most_pointers IsPointer image.pointers
+  pub functions : AreRows most_functions IsFunction image.functions
   pub main : image.main ≤ any_word
-  pub code : AreRows 1048576 IsInstruction image.code
+  pub code : AreRows most_instructions IsInstruction image.code
+  pub names : AreNames v image.names

@@ -1,12 +1,11 @@
 ghost use Rattle.std.specs.Prelude.{◌≡◌, ◌++◌, ℕ, List, [], Result};
 ghost use Rattle.ob_code.specs.declared.image.Image.{Image};
 ghost use Rattle.ob_image.specs.Faults.{Reads, Spells};
-ghost use Rattle.ob_image.specs.Spelling.{IsImage, spell_image};
 
-/// No image's spelling begins another's, and two images have two spellings.
+/// No image's spelling begins another's, whatever their versions, and two images have two spellings.
 pub fn law_no_prefix()
-    ensures { (image other : Image) (rest : List ℕ) → IsImage image → IsImage other
-        → spell_image image ++ rest ≡ spell_image other → (image ≡ other) × (rest ≡ []) }
+    ensures { (bytes rest : List ℕ) (image other : Image) → Spells bytes image → Spells (bytes ++ rest) other
+        → (image ≡ other) × (rest ≡ []) }
 {}
 
 /// Reading what spells an image gives the image, and nothing else.

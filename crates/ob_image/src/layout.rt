@@ -1,6 +1,14 @@
 ghost use Rattle.std.specs.Prelude.{◌≡◌, ◌≤◌};
 ghost use Rattle.ob_image.specs.Layout.{limits_of, operations};
 
+/// A version of the format. Version 1 tells neither the profile nor names: its images have profile 1 and
+/// no names.
+#[derive(Clone, Copy, Debug, PartialEq, Eq)]
+pub enum Version {
+    One,
+    Two,
+}
+
 /// The fields of an instruction as they stand in its 28 bytes. `imm` is a signed number's word, or the
 /// number of an operator or relation.
 #[derive(Clone, Copy, Debug, PartialEq, Eq)]

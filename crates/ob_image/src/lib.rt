@@ -1,8 +1,13 @@
-//! Images of the flat machine as bytes: the one spelling of a verified image, and the image that bytes
-//! spell or else the first byte from which no image's spelling is left. What was written is read back as
-//! the same image. Reading takes memory in proportion to the bytes that are there, and time linear in
-//! them. Stands on ob_code for images and their rules, on ob_model and ob_words for kinds, operators and
-//! fields of bytes, and on ob_base for byte lists.
+//! Images of the flat machine as bytes, in both versions of the format: version 2 has the profile and the
+//! names of variables, version 1 neither. `write_image` writes the one spelling of a verified image in
+//! version 2. `read_image` reads both versions, and else tells the first byte from which no image's spelling
+//! in either is left. What was written is read back as the same image. Reading takes memory in proportion
+//! to the bytes that are there, and time linear in them.
+//!
+//! Stands on ob_code for images and their rules, on ob_model and ob_words for profiles, kinds, operators and
+//! fields of bytes, and on ob_base for byte lists and for what a name is. To be believed: of specs/ Layout
+//! and Spelling (the spelling of an image), and Faults (what reading answers). Instructions, Reading and
+//! Rules serve the proof.
 #![tactic(auto)]
 
 pub use faults::ImageFault;
@@ -14,14 +19,15 @@ mod faults;
 mod fields;
 mod fields_of;
 mod given;
+mod head;
 mod instructions;
 mod kinds;
 mod laws;
 mod layout;
+mod names;
 mod numbers;
 mod parts;
 mod reading;
 mod rows;
-#[cfg(test)]
-mod tests;
+mod words;
 mod writing;

@@ -1,6 +1,6 @@
-ghost use Rattle.std.specs.Prelude.{◌≡◌, ◌≤◌, IfOk};
-ghost use Rattle.ob_image.specs.Layout.{operations};
-ghost use Rattle.ob_image.specs.Reading.{Gives, number, operation, exactly};
+ghost use Rattle.std.specs.Prelude.{◌≡◌, ◌<◌, ◌≤◌, IfOk};
+ghost use Rattle.ob_image.specs.Layout.{any_word};
+ghost use Rattle.ob_image.specs.Reading.{Gives, number, nonzero, from_one, choice, exactly};
 
 use crate::faults::Stop;
 
@@ -60,16 +60,40 @@ pub(crate) fn long(limit: u64, bytes: &[u8]) -> Result<(u64, &[u8]), Stop>
     number(8, limit, bytes)
 }
 
-/// An instruction's first byte, from 1 to 28.
-#[tactic(auto, unfolding(crate::specs::Reading::operation, crate::specs::Reading::one))]
-pub(crate) fn operation(bytes: &[u8]) -> Result<(u8, &[u8]), Stop>
-    ensures value { Gives (λ x. (x.0, x.1.now)) result (operation bytes.now) }
-    ensures range { IfOk result (λ x. (1 ≤ x.0) × (x.0 ≤ operations)) }
+/// A number of four bytes that isn't 0. Where it is, the last of them is the wrong one.
+#[tactic(auto, unfolding(crate::specs::Reading::nonzero, crate::specs::Reading::read_if))]
+pub(crate) fn nonzero(bytes: &[u8]) -> Result<(u32, &[u8]), Stop>
+    ensures value { Gives (λ x. (x.0, x.1.now)) result (nonzero bytes.now) }
+    ensures some { IfOk result (λ x. 0 < x.0) }
+{
+    let (n, rest) = word(u32::MAX, bytes)?;
+    if n == 0 {
+        return Err(Stop::Left(rest.len() + 1));
+    }
+    Ok((n, rest))
+}
+
+/// A byte from 1 up to `limit`.
+#[tactic(auto, unfolding(crate::specs::Reading::from_one, crate::specs::Reading::one))]
+pub(crate) fn from_one(limit: u8, bytes: &[u8]) -> Result<(u8, &[u8]), Stop>
+    ensures value { Gives (λ x. (x.0, x.1.now)) result (from_one limit bytes.now) }
+    ensures range { IfOk result (λ x. (1 ≤ x.0) × (x.0 ≤ limit)) }
 {
     match bytes {
-        [op, rest @ ..] if 1 <= *op && *op <= 28 => Ok((*op, rest)),
+        [n, rest @ ..] if 1 <= *n && *n <= limit => Ok((*n, rest)),
         _ => Err(Stop::Left(bytes.len())),
     }
+}
+
+/// A number of four bytes from 1 up to `limit`.
+#[tactic(auto, unfolding(crate::specs::Reading::choice, crate::specs::Reading::gives))]
+pub(crate) fn choice(limit: u8, bytes: &[u8]) -> Result<(u8, &[u8]), Stop>
+    ensures value { Gives (λ x. (x.0, x.1.now)) result (choice limit bytes.now) }
+    ensures range { IfOk result (λ x. (1 ≤ x.0) × (x.0 ≤ limit)) }
+{
+    let (n, rest) = from_one(limit, bytes)?;
+    let (_zeros, rest) = number(3, 0, rest)?;
+    Ok((n, rest))
 }
 
 /// The bytes of `text`.

@@ -1,19 +1,20 @@
 ghost use Rattle.std.specs.Prelude.{◌≡◌, ◌++◌, OnOk, IfOk};
 ghost use Rattle.ob_image.specs.Layout.{spell_instruction, AreFields, IsInstruction};
-ghost use Rattle.ob_image.specs.Reading.{Gives, static_row, pointer_row, local_row, function_row, fields_row, instruction_row};
-ghost use Rattle.ob_image.specs.Rules.{StaticRule, FunctionRule, InstructionRule, NoRule, IsTyped};
-ghost use Rattle.ob_image.specs.Spelling.{spell_static, spell_pointer, spell_local, spell_function, IsStatic, IsPointer, IsLocal, IsFunction};
+ghost use Rattle.ob_image.specs.Reading.{Gives, static_row, pointer_row, local_row, function_row, fields_row, instruction_row, name_row};
+ghost use Rattle.ob_image.specs.Rules.{StaticRule, FunctionRule, InstructionRule, NameRule, NoRule, IsTyped};
+ghost use Rattle.ob_image.specs.Spelling.{spell_static, spell_pointer, spell_local, spell_function, spell_name, IsStatic, IsPointer, IsLocal, IsFunction, IsNameRow};
 
 use crate::faults::Stop;
-use crate::fields::{put_fields, put_long, put_word};
+use crate::fields::{put_count, put_fields, put_long, put_word};
 use crate::fields_of::fields_of;
 use crate::given::given;
 use crate::instructions::instruction;
 use crate::layout::{Fields, limits_of};
-use crate::numbers::{byte, long, operation, word, zeros};
+use crate::names::name;
+use crate::numbers::{byte, from_one, long, nonzero, word, zeros};
 use crate::rows::{Row, counted, put_rows};
 use ob_base::NoMemory;
-use ob_code::{FunctionRow, Instr, LocalRow, PointerRow, Rows, StaticRow};
+use ob_code::{FunctionRow, Instr, LocalRow, NameRow, PointerRow, Rows, StaticRow};
 use std::alloc::Global;
 
 impl Row for StaticRow {
@@ -171,7 +172,7 @@ fn fields(bytes: &[u8]) -> Result<(Fields, &[u8]), Stop>
     ensures value { Gives (λ x. (x.0, x.1.now)) result (fields_row bytes.now) }
     ensures form { IfOk result (λ x. AreFields x.0) }
 {
-    let (op, rest) = operation(bytes)?;
+    let (op, rest) = from_one(28, bytes)?;
     let limits = limits_of(op);
     let (kind, rest) = byte(limits.kind, rest)?;
     let (_zeros, rest) = zeros(rest)?;
@@ -213,5 +214,52 @@ impl Row for Instr {
 
     fn put(&self, out: &mut Vec<u8>) -> Result<(), NoMemory> {
         put_fields(out, fields_of(*self))
+    }
+}
+
+impl Row for NameRow {
+    ghost use Rattle.ob_image.specs.Reading.{name_row};
+    ghost use Rattle.ob_image.specs.Rules.{NameRule};
+    ghost use Rattle.ob_image.specs.Spelling.{spell_name, IsNameRow};
+
+    ghost reader = { name_row };
+
+    ghost spelling = { spell_name };
+
+    ghost rule = { NameRule };
+
+    ghost valid = { IsNameRow };
+
+    #[tactic(auto, unfolding(crate::specs::Reading::name_row, crate::specs::Reading::gives))]
+    fn read(alloc: Global, bytes: &[u8]) -> Result<(NameRow, &[u8]), Stop> {
+        let (holder, rest) = word(u32::MAX, bytes)?;
+        let (ordinal, rest) = word(u32::MAX, rest)?;
+        let (line, rest) = word(u32::MAX, rest)?;
+        let (frame_word, rest) = word(u32::MAX, rest)?;
+        let (kind, rest) = word(12, rest)?;
+        let (count, rest) = nonzero(rest)?;
+        let (name, rest) = name(alloc, count as usize, rest)?;
+        let row = NameRow {
+            holder,
+            ordinal,
+            line,
+            word: frame_word,
+            kind,
+            name,
+        };
+        Ok((row, rest))
+    }
+
+    #[tactic(auto, unfolding(crate::specs::Spelling::spell_name))]
+    fn put(&self, out: &mut Vec<u8>) -> Result<(), NoMemory> {
+        let name = self.name.bytes();
+        put_word(out, self.holder)?;
+        put_word(out, self.ordinal)?;
+        put_word(out, self.line)?;
+        put_word(out, self.word)?;
+        put_word(out, self.kind)?;
+        put_count(out, name.len())?;
+        out.extend_from_slice(name)?;
+        Ok(())
     }
 }
