@@ -1,7 +1,8 @@
 -- A verified image keeps what the format asks beyond the types of its fields. So it has a spelling in version 2.
-use Rattle.std.proofs.Common.{◌≡◌, ℕ, zero, suc, ◌+◌, ◌-◌, ◌<◌, ◌≤◌, Bool, true, false, List, [], ◌∷◌, ◌++◌, length, take, get_or, refl, sym, subst, arith, inl, inr}
+use Rattle.std.proofs.Common.{◌≡◌, ℕ, zero, suc, ◌+◌, ◌-◌, ◌<◌, ◌≤◌, Bool, true, false, List, [], ◌∷◌, ◌++◌, length, take, get_or, refl, sym, ap, subst, arith, inl, inr}
 use Rattle.std.specs.Prelude.{slice_index_or}
-use Rattle.std.specs.Prelude.{◌&&◌, ◌||◌, not}
+use Rattle.std.specs.Prelude.{◌&&◌, ◌||◌, ◌⊎◌, not}
+use Rattle.std.proofs.lemmas.Option.{slice_get_cases, slice_get-get_or}
 use Rattle.std.specs.List.{AllByRecursion, list_all, list_any}
 use Rattle.std.specs.Str.{bytes_eq}
 use Rattle.std.proofs.lemmas.Slice.Eq.{bytes_eq-Decides}
@@ -16,8 +17,7 @@ use Rattle.ob_code.specs.declared.image.Image.{Image}
 use Rattle.ob_code.specs.declared.instructions.Instr.{Instr}
 use Rattle.ob_code.specs.declared.instructions.Instr.TheVariants.{Tick, Set, Move, Convert, Binary, Compare, Jump, JumpZero, JumpNonzero, Call, Return, Static, Local, Wipe, Load, Store, Slide, SlideBy, Shift, Same, Order, Difference, GetChar, PutChar, Malloc, Calloc, Free, Exit}
 use Rattle.ob_code.specs.Frames.{no_function}
-use Rattle.ob_code.specs.Rules.{IsVerified, AreFunctionsSound, IsFrameSound, IsCodeOf, AreOperandsSound, IsNameRowSound, instruction_at, local_at, no_static, no_name}
-use Rattle.ob_code.proofs.CodeRanges.{code_end_cases}
+use Rattle.ob_code.specs.Rules.{IsVerified, AreFunctionsSound, IsFrameSound, IsCodeOf, AreOperandsSound, IsNameRowSound, code_end, entry_or, instruction_at, local_at, no_static, no_name}
 use Rattle.ob_image.specs.Layout.{any_word, IsInstruction}
 use Rattle.ob_image.specs.declared.layout.Version.TheVariants.{Two}
 use Rattle.ob_image.specs.Rules.{StaticRule, FunctionRule, InstructionRule, NameRule, NoRule, IsTyped}
@@ -76,6 +76,14 @@ function_rules : (image : Image) → IsVerified image → AllByRecursion Functio
 function_rules image v = all_rows FunctionRule no_function image.functions (λ i lt. locals_most (row_at image i) (v.functions.rows.each i lt).frame)
 
 -- ---- code
+
+-- the code of a function ends at the next entry, or with the code
+code_end_cases : (image : Image) (f : ℕ) → ((f + 1 < length image.functions) × (code_end image f ≡ (row_at image (f + 1)).entry)) ⊎ ((length image.functions ≤ f + 1) × (code_end image f ≡ length image.code))
+code_end_cases image f =
+    elim (slice_get_cases image.functions (f + 1)).1 [
+      | inl w ↦ inl (w.1, ap (λ o. entry_or o (length image.code)) (slice_get-get_or image.functions (f + 1) no_function w.1))
+      | inr w ↦ inr (w.0, ap (λ o. entry_or o (length image.code)) w.1)
+    ]
 
 -- each place of the code is one of some function
 record Holder (image : Image) (i : ℕ) : Type 0 where
