@@ -15,7 +15,7 @@ use Rattle.ob_exprs.specs.DeepestPaths.{count, rise, inner, depth_of, deepest_st
 use Rattle.ob_exprs.proofs.Shapes.{body_spell, line_spell, type_start, pending_spell, stack_spell, PendingOk, BodyOk, TakesSpec, PendingFits, Stands}
 use Rattle.ob_exprs.proofs.Adding.{dims-added, dims-valid}
 use Rattle.ob_exprs.proofs.SoundAfter.{level-most}
-use Rattle.ob_exprs.proofs.Fills.{IsExprFrame, fill, behind, fill-spell, fill-of, fill-begun}
+use Rattle.ob_exprs.proofs.Fills.{IsExprPending, fill, behind, fill-spell, fill-of, fill-begun}
 use Rattle.ob_exprs.proofs.Filling.{x, valid-x, begun-dim, struct_with, struct-begun, struct-spell, struct-valid, length-body, begun-member, type_filled, type_behind, type-filled-spell, type-filled-of, type-filled-begun}
 use Rattle.ob_tree.specs.Levels.{primary_level}
 
@@ -37,7 +37,7 @@ NextSpec least m fs =
 
 module _ (least m : ℕ) where
   -- a pending node that an expression ends as an expression
-  wrap : (f : PendingNode) (fs : List PendingNode) (e : ExprTree) (read rest : List TokenKind) → IsExprFrame f → PendingOk f → PendingFits least fs f → IsOf (operand_level f) e → spell e ≡ read ++ rest
+  wrap : (f : PendingNode) (fs : List PendingNode) (e : ExprTree) (read rest : List TokenKind) → IsExprPending f → PendingOk f → PendingFits least fs f → IsOf (operand_level f) e → spell e ≡ read ++ rest
       → deepest_stack_path (f ∷ fs) ≤ m → depth_of (f ∷ fs) + begun e (length read) ≤ m → NextExpr least m fs → Completes least m (stack_spell (f ∷ fs) ++ read)
   wrap f fs e read rest i k h v g l d next =
       let g2 : spell (fill f e) ≡ (pending_spell f ++ read) ++ (rest ++ behind f) =

@@ -18,11 +18,11 @@ use Rattle.ob_exprs.proofs.Adding.{arguments-added, arguments-valid, dims-added,
 use Rattle.ob_exprs.proofs.Filling.{leaf, begun-argument, type-begun, type_filled, type_behind, type-filled-spell, type-filled-of, type-filled-begun}
 
 -- the pending nodes that an expression ends as an expression
-abbrev pub IsExprFrame : PendingNode → Type 0
-IsExprFrame (InLength (OfMember l n name a) ds) = ⊥
-IsExprFrame (InType m z) = ⊥
-IsExprFrame (InStruct b) = ⊥
-IsExprFrame f = Unit {0}
+abbrev pub IsExprPending : PendingNode → Type 0
+IsExprPending (InLength (OfMember l n name a) ds) = ⊥
+IsExprPending (InType m z) = ⊥
+IsExprPending (InStruct b) = ⊥
+IsExprPending f = Unit {0}
 
 abbrev pub fill : PendingNode → ExprTree → ExprTree
 fill (InParen m) e = ExprTree.Paren m e
@@ -53,7 +53,7 @@ groups t s n d b e c z = simp append_assoc
 groups3 : (a b c d : List TokenKind) → a ++ (b ++ (c ++ d)) ≡ (a ++ b) ++ (c ++ d)
 groups3 a b c d = simp append_assoc
 
-pub fill-spell : (f : PendingNode) (e : ExprTree) → IsExprFrame f → spell (fill f e) ≡ pending_spell f ++ (spell e ++ behind f)
+pub fill-spell : (f : PendingNode) (e : ExprTree) → IsExprPending f → spell (fill f e) ≡ pending_spell f ++ (spell e ++ behind f)
 fill-spell (InParen m) e i = refl
 fill-spell (InIndex m b) e i = sym (append_assoc (spell b) (kind.Sign sign.OpenBracket ∷ []) (spell e ++ kind.Sign sign.CloseBracket ∷ []))
 fill-spell (InCall m name es) e i =
@@ -81,7 +81,7 @@ fill-spell (InLength (OfMember l n name a) ds) e i = absurd i
 fill-spell (InType m z) e i = absurd i
 fill-spell (InStruct b) e i = absurd i
 
-pub fill-of : (f : PendingNode) (e : ExprTree) (least : ℕ) (fs : List PendingNode) → IsExprFrame f → PendingOk f → PendingFits least fs f → IsOf (operand_level f) e → IsOf (top_operand_level least fs) (fill f e)
+pub fill-of : (f : PendingNode) (e : ExprTree) (least : ℕ) (fs : List PendingNode) → IsExprPending f → PendingOk f → PendingFits least fs f → IsOf (operand_level f) e → IsOf (top_operand_level least fs) (fill f e)
 fill-of (InParen m) e least fs i k h v = (v.0, h)
 fill-of (InIndex m b) e least fs i k h v = ((k.0, k.1, v.0), h)
 fill-of (InCall m name es) e least fs i k h v = ((k.0, arguments-valid es e k.1 v), h)
@@ -98,7 +98,7 @@ fill-of (InType m z) e least fs i k h v = absurd i
 fill-of (InStruct b) e least fs i k h v = absurd i
 
 -- the nodes of the filled node that have begun when j tokens of the operand were read
-pub fill-begun : (f : PendingNode) (e : ExprTree) (j k : ℕ) → IsExprFrame f → PendingOk f → j ≤ width e → k ≡ length (pending_spell f) + j
+pub fill-begun : (f : PendingNode) (e : ExprTree) (j k : ℕ) → IsExprPending f → PendingOk f → j ≤ width e → k ≡ length (pending_spell f) + j
     → begun (fill f e) k ≤ max (inner f) (rise f + begun e j)
 fill-begun (InParen m) e j zero i o h g = omega arith
 fill-begun (InParen m) e j (suc k) i o h g = let n : suc k - 1 ≡ j = omega arith in rw n (omega arith)

@@ -1,5 +1,5 @@
 -- The loop that reads token by token.
-use Rattle.std.proofs.Common.{◌≡◌, ℕ, zero, suc, ◌+◌, ◌-◌, ◌<◌, ◌≤◌, max, List, [], ◌∷◌, length, take, drop, map, get_or, true, false, Option, Some, None, cond, option_map, refl, sym, ◌∙◌, ap, subst, arith}
+use Rattle.std.proofs.Common.{◌≡◌, ℕ, zero, suc, ◌+◌, ◌-◌, ◌<◌, ◌≤◌, max, List, [], ◌∷◌, length, take, drop, map, get_or, false, Option, Some, None, cond, option_map, refl, sym, ◌∙◌, ap, subst, arith}
 use Rattle.std.specs.Prelude.{nat_le, Err}
 use Rattle.ob_tree.specs.declared.faults.SyntaxFault.{SyntaxFault}
 use Rattle.ob_tree.specs.declared.faults.SyntaxFault.TheVariants as fault

@@ -1,6 +1,6 @@
 -- What a sign behind a whole operand leads to, where it is none of a postfix expression: first the pending nodes that it
 -- closes are closed.
-use Rattle.std.specs.Prelude.{ℕ, List, [], ◌∷◌, Bool, false, true, Option, Some, None, cond, nat_lt}
+use Rattle.std.specs.Prelude.{ℕ, List, ◌∷◌, Bool, false, true, Option, Some, None, cond, nat_lt}
 use Rattle.ob_tree.specs.declared.tokens.Sign.{Sign}
 use Rattle.ob_tree.specs.declared.tokens.Sign.TheVariants as sign
 use Rattle.ob_tree.specs.Trees.{Infix, ExprTree}

@@ -4,7 +4,7 @@ use ob_tree::Sign;
 
 /// Where an expression stands: the places of its first token and of its own sign, and the line of
 /// the first token.
-#[derive(Clone, Copy, Debug, PartialEq, Eq)]
+#[derive(Clone, Copy)]
 pub struct ExprMark {
     pub first: u32,
     pub at: u32,
@@ -12,7 +12,7 @@ pub struct ExprMark {
 }
 
 /// What joins two operands.
-#[derive(Clone, Copy, Debug, PartialEq, Eq)]
+#[derive(Clone, Copy)]
 pub enum Operator {
     Comma,
     Assign(Sign),

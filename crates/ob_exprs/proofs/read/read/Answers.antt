@@ -1,4 +1,4 @@
-use Rattle.std.proofs.Common.{◌≡◌, Err, length, arith}
+use Rattle.std.proofs.Common.{◌≡◌, length, arith}
 use Rattle.ob_exprs.specs.Reading.{state_of}
 use Rattle.ob_exprs.specs.ReadTokens.{reading}
 use Rattle.ob_exprs.proofs.Loop.{goes-on, too-deep, at-end}
