@@ -6,6 +6,7 @@ use Rattle.ob_base.specs.Faults.{Rose}
 use Rattle.ob_base.specs.Sink.{Tally, TakesPrefix, tally_known}
 use Rattle.ob_model.specs.declared.endings.Ending.{Ending}
 use Rattle.ob_model.specs.declared.endings.Ending.TheVariants.{Spent}
+use Rattle.ob_model.specs.declared.settings.Profile.TheVariants.{One}
 use Rattle.ob_model.specs.declared.settings.Mode.TheVariants.{Oblivious}
 use Rattle.ob_model.specs.declared.settings.RunSettings.{RunSettings}
 use Rattle.ob_model.specs.Endings.{Begins, InputEnd, closed, failed}
@@ -171,7 +172,7 @@ rows_then r s t p q =
 -- ---- a run stays ready
 
 pub any_settings : RunSettings
-any_settings = record { mode = Oblivious; store = 1; away = 0; heap = 0 }
+any_settings = record { mode = Oblivious; store = 1; away = 0; heap = 0; profile = One }
 
 pub none_beside : Beside
 none_beside = record { input = []; output = []; events = []; cycle_place = 0 }

@@ -10,8 +10,10 @@ use Rattle.ob_words.specs.Words.{word, number}
 use Rattle.ob_model.specs.declared.endings.Ending.TheVariants as ending
 use Rattle.ob_model.specs.declared.strays.Act.TheVariants as act
 use Rattle.ob_model.specs.declared.values.LoadKind.{LoadKind}
-use Rattle.ob_model.specs.declared.objects.Entry.{Entry}
-use Rattle.ob_model.specs.Accesses.{bytes_of_kind, is_far, is_inside}
+use Rattle.ob_model.specs.declared.settings.Profile.{Profile}
+use Rattle.ob_model.specs.declared.settings.Profile.TheVariants as profiles
+use Rattle.ob_model.specs.Accesses.{bytes_of_kind, is_far}
+use Rattle.ob_model.specs.Pointers as moves
 use Rattle.ob_model.specs.Descriptors.{Pair, pair_count, slot_of}
 use Rattle.ob_model.specs.Heap.{place_for}
 use Rattle.ob_model.specs.declared.strays.StrayEvent.{StrayEvent}
@@ -21,7 +23,7 @@ use Rattle.ob_code.specs.declared.instructions.Instr.{Instr}
 use Rattle.ob_code.specs.declared.instructions.Instr.TheVariants as instr
 use Rattle.ob_code.proofs.CodeRanges.{code_end_cases, entry_before_end}
 use Rattle.ob_code.specs.Accesses.{Access, too_far, direct, own, outside, vanishing, access, event_of, found_word, space_after_load, space_after_store}
-use Rattle.ob_code.specs.Allocation.{Freeing, no_effect, dies, stray, free_event, freeing, allocated_at, space_after_free}
+use Rattle.ob_code.specs.Allocation.{Freeing, no_effect, own as freed, stray, free_event, freeing, allocated_at, once_freed, space_after_free}
 use Rattle.ob_code.specs.Frames.{entered, function_at, is_full, left_call, with_word, with_words, words_from}
 use Rattle.ob_code.specs.Machine as machine
 use Rattle.ob_code.specs.Pointers as pointers
@@ -186,17 +188,16 @@ slot_keeps : (slot : Option ℕ) (away : ℕ) (p : Pair) (s : Space) → KeepsCa
 slot_keeps (Some k) away p s = (refl, refl)
 slot_keeps None away p s = either_shifted s (nat_lt (pair_count s.slots) away) _ pointers.no_slot (refl, refl) tt
 
-word_keeps : (b : Bool) (away : ℕ) (e : Entry) (offset : ℤ) (s : Space) → KeepsCalls s (pointers.pointer_word b away e offset s)
-word_keeps true away e offset s = (refl, refl)
-word_keeps false away e offset s = slot_keeps (slot_of s.slots (e.object, offset)) away (e.object, offset) s
-
-moved_keeps : (away : ℕ) (t : pointers.Target) (d : ℤ) (s : Space) → KeepsCalls s (pointers.moved_by away t d s)
-moved_keeps away pointers.nothing d s = (refl, refl)
-moved_keeps away (pointers.into e offset) d s =
-    either_shifted s (is_far (offset +ℤ d)) pointers.too_far _ tt (word_keeps (is_inside e.size (offset +ℤ d) 0) away e (offset +ℤ d) s)
+placed_keeps : (away base : ℕ) (m : moves.Moved) (s : Space) → KeepsCalls s (pointers.placed away base m s)
+placed_keeps away base moves.stays_null s = (refl, refl)
+placed_keeps away base moves.too_far s = tt
+placed_keeps away base (moves.in_bounds object offset) s = (refl, refl)
+placed_keeps away base (moves.out_of_bounds object offset) s = slot_keeps (slot_of s.slots (object, offset)) away (object, offset) s
 
 shift_keeps : (away : ℕ) (s : Space) (w : ℕ) (d : ℤ) → KeepsCalls s (pointers.shift away s w d)
-shift_keeps away s w d = either_shifted s (is_far d) pointers.too_far _ tt (moved_keeps away (pointers.resolve s w) d s)
+shift_keeps away s w d =
+    let t = pointers.resolve s w in
+    either_shifted s (is_far d) pointers.too_far _ tt (placed_keeps away (pointers.base_of t) (moves.moved_by (pointers.size_of t) (pointers.pointer_of t) d) s)
 
 -- checked accesses and frees change neither, and telling an event moves nothing
 told_counter : (e : Option StrayEvent) (s : State) → (machine.told e s).counter ≡ s.counter
@@ -224,10 +225,14 @@ store_keeps (own object offset address) cap kind w s = (refl, refl)
 store_keeps (outside object offset) cap kind w s = (refl, refl)
 store_keeps (vanishing object offset) cap kind w s = (refl, refl)
 
-free_keeps : (x : Freeing) (s : Space) → SameCalls s (space_after_free x s)
-free_keeps no_effect s = (refl, refl)
-free_keeps (dies e) s = (refl, refl)
-free_keeps (stray e offset) s = (refl, refl)
+once_freed_keeps : (profile : Profile) (object : ℕ) (s : Space) → SameCalls s (once_freed profile object s)
+once_freed_keeps profiles.One object s = (refl, refl)
+once_freed_keeps profiles.Two object s = (refl, refl)
+
+free_keeps : (profile : Profile) (x : Freeing) (s : Space) → SameCalls s (space_after_free profile x s)
+free_keeps profile no_effect s = (refl, refl)
+free_keeps profile (freed object) s = once_freed_keeps profile object s
+free_keeps profile (stray object offset) s = (refl, refl)
 
 module _ (u : Setup) (v : IsVerified u.image) (s : State) (placed : IsPlaced u.image s.space.calls s.counter) where
   -- on to the next place
@@ -276,9 +281,9 @@ module _ (u : Setup) (v : IsVerified u.image) (s : State) (placed : IsPlaced u.i
   allocate i is on n e place size a =
       goes_on i is on _ (allocated_calls place size s.space) refl (omega (arith, allocated_next place size s.space))
 
-  free : (i : Instr) → slice_get u.image.code s.counter ≡ Some i → ¬ IsLast i → (n : ℕ) → s.steps ≡ suc n → (x : Freeing) (line : ℕ) → Goes u.image s (machine.free x line (record s { steps = n }))
+  free : (i : Instr) → slice_get u.image.code s.counter ≡ Some i → ¬ IsLast i → (n : ℕ) → s.steps ≡ suc n → (x : Freeing) (line : ℕ) → Goes u.image s (machine.free u.settings.profile x line (record s { steps = n }))
   free i is on n e x line =
-      let keeps = free_keeps x s.space in
+      let keeps = free_keeps u.settings.profile x s.space in
       let event = free_event x line in
       let t : State = record s { steps = n } in
       goes_on i is on _ keeps.0 (ap (λ k. k + 1) (told_counter event t)) (omega (arith, keeps.1, told_steps event t))
@@ -341,6 +346,6 @@ module _ (u : Setup) (v : IsVerified u.image) (s : State) (placed : IsPlaced u.i
       ticked u.image s.steps s (λ t. machine.allocate (place_for t.space.blocks u.settings.heap (machine.get t b * machine.get t c)) (machine.get t b * machine.get t c) a t) refl
       (λ n e. allocate (instr.Calloc a b c) is (λ x. x) n e (place_for s.space.blocks u.settings.heap (machine.get s b * machine.get s c)) (machine.get s b * machine.get s c) a)
   act_on (instr.Free line b) is =
-      ticked u.image s.steps s (λ t. machine.free (freeing (machine.target t b)) line t) refl
+      ticked u.image s.steps s (λ t. machine.free u.settings.profile (freeing (machine.target t b)) line t) refl
       (λ n e. free (instr.Free line b) is (λ x. x) n e (freeing (machine.target (record s { steps = n }) b)) line)
   act_on (instr.Exit b) is = ticked u.image s.steps s (λ t. stops (ending.Ended (number Int (machine.get t b))) t) refl (λ n e. tt)

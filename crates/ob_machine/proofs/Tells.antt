@@ -17,6 +17,7 @@ use Rattle.ob_code.specs.declared.image.Image.{Image}
 use Rattle.ob_code.specs.declared.instructions.Instr.{Instr}
 use Rattle.ob_code.specs.declared.instructions.Instr.TheVariants as instr
 use Rattle.ob_code.specs.Accesses.{Access, too_far, access, event_of, found_word, space_after_load}
+use Rattle.ob_model.specs.declared.settings.Profile.{Profile}
 use Rattle.ob_code.specs.Allocation.{Freeing, free_event, freeing}
 use Rattle.ob_code.specs.Frames.{entered, function_at, is_full, left_call, with_words, words_from}
 use Rattle.ob_code.specs.Machine as machine
@@ -117,8 +118,8 @@ get_char s failed [] a t h = (refl, h)
 get_char s closed (byte ∷ rest) a t h = record { output = h.output; instructions = h.instructions }
 get_char s failed (byte ∷ rest) a t h = record { output = h.output; instructions = h.instructions }
 
-free : (end : InputEnd) (s : State) (x : Freeing) (line : ℕ) (t : State) → IsAfter s t → Tells end s (machine.free x line t)
-free end s x line t h = let after = told s (free_event x line) t h in record { output = after.output; instructions = after.instructions }
+free : (end : InputEnd) (s : State) (profile : Profile) (x : Freeing) (line : ℕ) (t : State) → IsAfter s t → Tells end s (machine.free profile x line t)
+free end s profile x line t h = let after = told s (free_event x line) t h in record { output = after.output; instructions = after.instructions }
 
 pub act_on : (u : Setup) (i : Option Instr) (s : State) → Tells u.input_end s (machine.act_on u i s)
 act_on u None s = (tt, quiet s s refl refl)
@@ -162,7 +163,7 @@ act_on u (Some (instr.Malloc a b)) s =
 act_on u (Some (instr.Calloc a b c)) s =
     ticked u.input_end s.steps s (λ t. machine.allocate (place_for t.space.blocks u.settings.heap (machine.get t b * machine.get t c)) (machine.get t b * machine.get t c) a t) (λ n. quiet s _ refl refl)
 act_on u (Some (instr.Free line b)) s =
-    ticked u.input_end s.steps s (λ t. machine.free (freeing (machine.target t b)) line t)
-    (λ n. let t : State = record s { steps = n } in free u.input_end s (freeing (machine.target t b)) line t (quiet s _ refl refl))
+    ticked u.input_end s.steps s (λ t. machine.free u.settings.profile (freeing (machine.target t b)) line t)
+    (λ n. let t : State = record s { steps = n } in free u.input_end s u.settings.profile (freeing (machine.target t b)) line t (quiet s _ refl refl))
 act_on u (Some (instr.Exit b)) s =
     ticked u.input_end s.steps s (λ t. stops (ending.Ended (number Int (machine.get t b))) t) (λ n. (tt, quiet s _ refl refl))

@@ -1,9 +1,10 @@
 //! That the calls find memory, how devices that fail end a run, and that nothing is read after the end.
 
-use ob_machine::Machine;
 use ob_base::{MemSink, MemSource, Source};
-use ob_code::{FunctionRow, Image, Instr, Rows, Verified, verify};
+use ob_code::{FunctionRow, Image, Instr, Rows, verify};
+use ob_machine::Machine;
 use ob_model::{Ending, Mode, Profile, RunSettings};
+use ob_space::is_built;
 use ob_words::{BinOp, IntType, Relation};
 use std::alloc::{AllocError, Global};
 use std::process::Abort;
@@ -53,20 +54,23 @@ fn image(alloc: Global, code: &[Instr]) -> Result<Image, AllocError> {
         locals: Rows::from_vec(Vec::new(alloc)),
     })?;
     Ok(Image {
+        profile: Profile::One,
         statics: Rows::from_vec(Vec::new(alloc)),
         pointers: Rows::from_vec(Vec::new(alloc)),
         functions: Rows::from_vec(functions),
         main: 0,
         code: Rows::from_vec(Vec::from_slice(alloc, code)?),
+        names: Rows::from_vec(Vec::new(alloc)),
     })
 }
 
-fn verified(rt: &impl Abort, alloc: Global, code: &[Instr]) -> Result<Verified, Fail> {
-    Ok(
-        verify(image(alloc, code)?)
-            .ok()
-            .expect(rt, "the image keeps the rules"),
-    )
+// A fresh machine with this code.
+fn loaded(rt: &impl Abort, alloc: Global, code: &[Instr]) -> Result<Machine, Fail> {
+    let v = verify(image(alloc, code)?)
+        .ok()
+        .expect(rt, "the image keeps the rules");
+    assert!(rt; is_built(&v));
+    Ok(Machine::load(alloc, v, &SETTINGS)?)
 }
 
 const SETTINGS: RunSettings = RunSettings {
@@ -87,7 +91,7 @@ fn runs(
     ending: Ending,
     written: &[u8],
 ) -> Result<(), Fail> {
-    let mut machine = Machine::load(alloc, verified(rt, alloc, &ECHO)?, &SETTINGS)?;
+    let mut machine = loaded(rt, alloc, &ECHO)?;
     let mut input = MemSource::new(alloc, b"x", &[], 1)?;
     let mut out = MemSink::new(alloc, 16, &[], 1)?;
     let first = machine.run(100, &mut input, &mut out);
@@ -112,7 +116,7 @@ fn devices_that_fail(rt: HostRuntime) -> Result<(), Fail> {
 // Runs on the input `x`, one byte a call, whose read of this number fails; the program reads past the end
 // twice.
 fn reads_on(rt: &impl Abort, alloc: Global, read: u64, ending: Ending) -> Result<MemSource, Fail> {
-    let mut machine = Machine::load(alloc, verified(rt, alloc, &READ_ON)?, &SETTINGS)?;
+    let mut machine = loaded(rt, alloc, &READ_ON)?;
     let mut input = MemSource::new(alloc, b"x", &[read], 1)?;
     let mut out = MemSink::new(alloc, 16, &[], 1)?;
     assert_eq!(rt; machine.run(100, &mut input, &mut out), ending);
@@ -127,5 +131,40 @@ fn no_read_after_the_end(rt: HostRuntime) -> Result<(), Fail> {
     assert!(rt; input.read(&mut [0]).is_ok());
     let mut input = reads_on(&rt, rt.alloc(), 1, Ending::ReadFault)?;
     assert!(rt; input.read(&mut [0]).is_ok());
+    Ok(())
+}
+
+// Writes dots for ever.
+const DOTS: [Instr; 3] = [
+    Instr::Set { a: 2, imm: 46 },
+    Instr::PutChar { a: 3, b: 2 },
+    Instr::Jump { imm: 1 },
+];
+
+// Output is written in pieces of 4,096 bytes: the second write is the one that fails.
+#[test]
+fn pieces_of_4096_bytes(rt: HostRuntime) -> Result<(), Fail> {
+    let alloc = rt.alloc();
+    let mut machine = loaded(&rt, alloc, &DOTS)?;
+    let mut input = MemSource::new(alloc, b"", &[0], 1)?;
+    let mut out = MemSink::new(alloc, 16_384, &[1], 16_384)?;
+    assert_eq!(&rt;
+        machine.run(5_000, &mut input, &mut out),
+        Ending::WriteFault
+    );
+    assert_eq!(&rt; out.taken().len(), 4_096);
+    Ok(())
+}
+
+// A run that reads and writes nothing makes no call of a device.
+#[test]
+fn no_call_without_need(rt: HostRuntime) -> Result<(), Fail> {
+    let alloc = rt.alloc();
+    let code = [Instr::Set { a: 2, imm: 7 }, Instr::Return { b: 2 }];
+    let mut machine = loaded(&rt, alloc, &code)?;
+    let mut input = MemSource::new(alloc, b"x", &[0], 1)?;
+    let mut out = MemSink::new(alloc, 16, &[0], 1)?;
+    assert_eq!(&rt; machine.run(100, &mut input, &mut out), Ending::Ended(7));
+    assert!(&rt; input.read(&mut [0]).is_err());
     Ok(())
 }
