@@ -1,0 +1,2 @@
+-- What samples are, and what a sink that counts has counted.
+pub mod Samples
