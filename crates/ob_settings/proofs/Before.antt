@@ -1,19 +1,18 @@
 -- What is read before the argument and around it.
-use Rattle.std.proofs.Common.{◌≡◌, ℕ, ◌+◌, ◌-◌, ◌<◌, ◌≤◌, Bool, true, false, List, [], ◌∷◌, ◌++◌, length, get_or, Option, Some, None, unwrap_or, refl, sym, ap, ◌∙◌, subst, arith, append_assoc}
+use Rattle.std.proofs.Common.{◌≡◌, ℕ, ◌+◌, Bool, true, List, [], ◌∷◌, ◌++◌, length, Option, Some, None, refl, sym, ap, ◌∙◌, subst, arith}
 use Rattle.std.proofs.lemmas.List.{length-append}
 use Rattle.std.proofs.lemmas.List.Concat.{flat_map-cons}
 use Rattle.std.specs.List.{flat_map}
 use Rattle.std.specs.Option.{option_map}
 use Rattle.ob_settings.specs.Lines.{Given, apart, joined, alone, choices_from, chosen, closing_words, is_plain, two_dashes, words_of}
 use Rattle.ob_settings.specs.Options.{where_had, with_value, without_value}
-use Rattle.ob_settings.specs.Reading.{Kind, ends, argument, waits, flag, valued, unknown, choosing, placed, reads, step_by, taking_one, taking_two, with_argument, with_choices, word_kind}
+use Rattle.ob_settings.specs.Reading.{Kind, ends, argument, waits, flag, valued, unknown, placed, reads, step_by, taking_one, taking_two, with_argument, with_choices, word_kind}
 use Rattle.ob_settings.specs.declared.choices.Choices.{Choices}
 use Rattle.ob_settings.specs.declared.reader.Reader.{Reader}
-use Rattle.ob_settings.specs.declared.reader.Step.{Step}
 use Rattle.ob_settings.specs.declared.verb.Verb.{Verb}
 use Rattle.ob_settings.proofs.Complete.{none_some}
 use Rattle.ob_settings.proofs.Steps.{goes, reads_cons, rest_of}
-use Rattle.ob_settings.proofs.Sound.{After, after, chosen_more, more_words, one_fails, one_goes, same_some, two_fails, two_goes}
+use Rattle.ob_settings.proofs.Sound.{after, chosen_more, more_words, one_fails, one_goes, same_some, two_fails, two_goes}
 use Rattle.ob_settings.proofs.Words.{Looks, looks}
 
 -- the words from a place on, where no argument stood before: they have none, or they have it before a `--` or behind one
@@ -38,11 +37,11 @@ before_more : (verb : Verb) (at n : ℕ) (r : Reader) (c : Choices) (given : Giv
 before_more verb at n r c given w words last is w_is n_is (nowhere place) = nowhere place
 before_more verb at n r c given w words last is w_is n_is (around before word behind closing mid spelled plain first second place) =
     around (given ∷ before) word behind closing mid (more_words given before w words (word ∷ (flat_map words_of behind ++ closing_words closing)) w_is spelled) plain
-        (chosen_more verb r.choices c given before (Some mid) is first) second
-        (place ∙ ap Some (let e = placed_more at n given before 0 w w_is n_is in omega (arith, e)))
+    (chosen_more verb r.choices c given before (Some mid) is first) second
+    (place ∙ ap Some (let e = placed_more at n given before 0 w w_is n_is in omega (arith, e)))
 before_more verb at n r c given w words last is w_is n_is (past before word spelled first place) =
     past (given ∷ before) word (more_words given before w words (two_dashes ∷ word ∷ []) w_is spelled)
-        (chosen_more verb r.choices c given before (Some last.choices) is first) (place ∙ ap Some (placed_more at n given before 1 w w_is n_is))
+    (chosen_more verb r.choices c given before (Some last.choices) is first) (place ∙ ap Some (placed_more at n given before 1 w w_is n_is))
 
 before_given : (verb : Verb) (at n : ℕ) (r : Reader) (given : Given) (w words : List (List ℕ)) (o : Option Choices) (last : Reader) → o ≡ chosen verb given r.choices → w ≡ words_of given → n ≡ length w → r.place ≡ None →
     ((c : Choices) → o ≡ Some c → reads verb (at + n) (with_choices r c) words ≡ Some last) → ((P : Type 0) → o ≡ None → P) → Next verb (at + n) words last → Before verb at r (w ++ words) last

@@ -1,5 +1,5 @@
 -- The words of a line are read, and give what the line says.
-use Rattle.std.proofs.Common.{◌≡◌, ℕ, ◌+◌, Bool, true, false, cond, List, [], ◌∷◌, ◌++◌, length, Option, Some, None, unwrap_or, refl, sym, ap, ◌∙◌, subst, arith, append_assoc}
+use Rattle.std.proofs.Common.{◌≡◌, ℕ, ◌+◌, Bool, true, false, cond, List, [], ◌∷◌, ◌++◌, length, Option, Some, None, unwrap_or, refl, ap, ◌∙◌, arith, append_assoc}
 use Rattle.std.proofs.lemmas.List.{length-append}
 use Rattle.std.proofs.lemmas.List.Concat.{flat_map-cons}
 use Rattle.std.proofs.lemmas.Option.{option_and_then_some}
@@ -7,7 +7,7 @@ use Rattle.std.specs.List.{flat_map}
 use Rattle.std.specs.Option.{option_map}
 use Rattle.ob_settings.specs.Lines.{Given, apart, joined, alone, Line, around, behind, choices_from, chosen, closing_words, has_plain_argument, is_plain, line_choices, line_place, line_verb, line_words, two_dashes, words_of}
 use Rattle.ob_settings.specs.Options.{has, no_choices, setting_name, where_had, with_value, without_value, verb_name}
-use Rattle.ob_settings.specs.Reading.{Kind, argument as an_argument, valued, flag_or_waits, choosing, nothing_read, reads, step, step_by, taking_one, taking_two, with_choices, word_kind}
+use Rattle.ob_settings.specs.Reading.{Kind, argument as an_argument, valued, flag_or_waits, choosing, nothing_read, reads, step_by, taking_one, taking_two, with_choices, word_kind}
 use Rattle.ob_settings.specs.declared.choices.Choices.{Choices}
 use Rattle.ob_settings.specs.declared.option.Setting.{Setting}
 use Rattle.ob_settings.specs.declared.option.Setting.TheVariants as setting
@@ -70,13 +70,13 @@ options_read verb at r [] c tail is =
     ap (λ n. reads verb n r tail) {x = at} {y = at + 0} (omega arith) ∙ ap (λ d. reads verb (at + 0) (with_choices r d) tail) (ap (λ o. unwrap_or o c) is)
 options_read verb at r (given ∷ options) c tail is =
     option_and_then_some (λ next. choices_from verb next options) (chosen verb given r.choices) c is (λ next chosen_is rest_is.
-        let words = flat_map words_of options in
-        ap (λ w. reads verb at r (w ++ tail)) (flat_map-cons words_of given options) ∙
-        ap (reads verb at r) (append_assoc (words_of given) words tail) ∙
-        given_read verb at r given next (words ++ tail) chosen_is ∙
-        options_read verb (at + length (words_of given)) (with_choices r next) options c tail rest_is ∙
-        ap (λ n. reads verb n (with_choices r c) tail)
-            (let e : length (flat_map words_of (given ∷ options)) ≡ length (words_of given) + length words = ap length (flat_map-cons words_of given options) ∙ length-append (words_of given) words in omega (arith, e)))
+    let words = flat_map words_of options in
+    ap (λ w. reads verb at r (w ++ tail)) (flat_map-cons words_of given options) ∙
+    ap (reads verb at r) (append_assoc (words_of given) words tail) ∙
+    given_read verb at r given next (words ++ tail) chosen_is ∙
+    options_read verb (at + length (words_of given)) (with_choices r next) options c tail rest_is ∙
+    ap (λ n. reads verb n (with_choices r c) tail)
+    (let e : length (flat_map words_of (given ∷ options)) ≡ length (words_of given) + length words = ap length (flat_map-cons words_of given options) ∙ length-append (words_of given) words in omega (arith, e)))
 
 -- what options choose in two parts
 abbrev pub InParts : Verb → Choices → List Given → List Given → Choices → Type 0
@@ -86,14 +86,14 @@ pub in_parts : (verb : Verb) (c : Choices) (before after : List Given) (last : C
 in_parts verb c [] after last is = (c, refl, is)
 in_parts verb c (given ∷ before) after last is =
     option_and_then_some (λ next. choices_from verb next (before ++ after)) (chosen verb given c) last is (λ next chosen_is rest_is.
-        let parts = in_parts verb next before after last rest_is in
-        (parts.0, rw chosen_is parts.1, parts.2))
+    let parts = in_parts verb next before after last rest_is in
+    (parts.0, rw chosen_is parts.1, parts.2))
 
 pub in_one : (verb : Verb) (c : Choices) (before after : List Given) (mid last : Choices) → choices_from verb c before ≡ Some mid → choices_from verb mid after ≡ Some last → choices_from verb c (before ++ after) ≡ Some last
 in_one verb c [] after mid last first second = ap (λ d. choices_from verb d after) (ap (λ o. unwrap_or o mid) first) ∙ second
 in_one verb c (given ∷ before) after mid last first second =
     option_and_then_some (λ next. choices_from verb next before) (chosen verb given c) mid first (λ next chosen_is rest_is.
-        rw chosen_is (in_one verb next before after mid last rest_is second))
+    rw chosen_is (in_one verb next before after mid last rest_is second))
 
 -- ---- lines
 

@@ -1,5 +1,5 @@
 -- The reader's answer and the lines of `Lines`.
-use Rattle.std.proofs.Common.{◌≡◌, ℕ, zero, suc, ◌+◌, ◌<◌, true, List, [], ◌∷◌, ◌++◌, length, get_or, map, drop, Option, Some, None, unwrap_or, refl, sym, ap, ◌∙◌, subst, arith, drop-cons}
+use Rattle.std.proofs.Common.{◌≡◌, ℕ, zero, suc, ◌+◌, ◌<◌, true, List, [], ◌∷◌, ◌++◌, length, get_or, map, drop, Option, Some, None, refl, sym, ap, ◌∙◌, subst, arith, drop-cons}
 use Rattle.std.proofs.lemmas.List.{length-append, length-map}
 use Rattle.std.specs.List.{flat_map}
 use Rattle.std.specs.Prelude.{IfOk, IsSomeAnd, Result, Ok, Err}
@@ -8,7 +8,6 @@ use Rattle.ob_settings.specs.Jobs.{IsJobOf, IsUsage, number_of, job_of}
 use Rattle.ob_settings.specs.Lines.{Line, around, behind, closing_words, has_plain_argument, line_argument, line_choices, line_place, line_verb, line_words, two_dashes, words_of}
 use Rattle.ob_settings.specs.Options.{no_choices, verb_name}
 use Rattle.ob_settings.specs.Reading.{nothing_read, reads, verb_named}
-use Rattle.ob_settings.specs.declared.choices.Choices.{Choices}
 use Rattle.ob_settings.specs.declared.job.Job.{Job}
 use Rattle.ob_settings.specs.declared.reader.Reader.{Reader}
 use Rattle.ob_settings.specs.declared.verb.Verb.{Verb}

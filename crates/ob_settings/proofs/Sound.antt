@@ -1,14 +1,12 @@
 -- What is read is a line.
-use Rattle.std.proofs.Common.{◌≡◌, ℕ, ◌+◌, ◌-◌, ◌<◌, ◌≤◌, Bool, true, false, List, [], ◌∷◌, ◌++◌, length, get_or, Option, Some, None, unwrap_or, refl, sym, ap, ◌∙◌, subst, arith, append_assoc}
-use Rattle.std.proofs.lemmas.List.{length-append}
+use Rattle.std.proofs.Common.{◌≡◌, ℕ, ◌+◌, Bool, true, false, List, [], ◌∷◌, ◌++◌, Option, Some, None, unwrap_or, refl, sym, ap, ◌∙◌, subst, append_assoc}
 use Rattle.std.proofs.lemmas.List.Concat.{flat_map-cons}
 use Rattle.std.specs.List.{flat_map}
 use Rattle.std.specs.Option.{option_map}
-use Rattle.ob_settings.specs.Lines.{Given, apart, joined, alone, choices_from, chosen, closing_words, is_plain, two_dashes, words_of}
-use Rattle.ob_settings.specs.Options.{setting_name, where_had, with_value, without_value}
+use Rattle.ob_settings.specs.Lines.{Given, apart, joined, alone, choices_from, chosen, closing_words, words_of}
+use Rattle.ob_settings.specs.Options.{where_had, with_value, without_value}
 use Rattle.ob_settings.specs.Reading.{Kind, ends, argument, waits, flag, valued, unknown, choosing, placed, reads, step_by, taking_one, taking_two, with_argument, with_choices, word_kind}
 use Rattle.ob_settings.specs.declared.choices.Choices.{Choices}
-use Rattle.ob_settings.specs.declared.option.Setting.{Setting}
 use Rattle.ob_settings.specs.declared.reader.Reader.{Reader}
 use Rattle.ob_settings.specs.declared.reader.Step.{Step}
 use Rattle.ob_settings.specs.declared.verb.Verb.{Verb}

@@ -1,5 +1,5 @@
 -- What a word is by itself, and what it is to be of a kind.
-use Rattle.std.proofs.Common.{◌≡◌, ℕ, ◌<◌, Bool, true, false, cond, List, [], ◌∷◌, ◌++◌, Option, Some, None, unwrap_or, refl, sym, ap, ◌∙◌, subst, arith}
+use Rattle.std.proofs.Common.{◌≡◌, ℕ, Bool, true, false, cond, List, [], ◌∷◌, ◌++◌, Option, Some, None, unwrap_or, refl, sym, ap, ◌∙◌}
 use Rattle.std.specs.Cmp.Lexicographic.{same_text}
 use Rattle.std.specs.Prelude.{codes, not, ◌&&◌, ◌==◌}
 use Rattle.std.specs.Str.{bytes_eq}
@@ -28,14 +28,14 @@ tested name text t s rest false test is found others = others found
 pub setting_is : (name : List ℕ) (s : Setting) → setting_named name ≡ Some s → name ≡ setting_name s
 setting_is name s named =
     tested name (codes "--mode") setting.Mode s _ (bytes_eq name (codes "--mode")) refl refl named
-        (λ more. tested name (codes "--steps") setting.Steps s _ (bytes_eq name (codes "--steps")) refl refl more
-        (λ more. tested name (codes "--store") setting.Store s _ (bytes_eq name (codes "--store")) refl refl more
-        (λ more. tested name (codes "--away") setting.Away s _ (bytes_eq name (codes "--away")) refl refl more
-        (λ more. tested name (codes "--heap") setting.Heap s _ (bytes_eq name (codes "--heap")) refl refl more
-        (λ more. tested name (codes "--maker") setting.Maker s _ (bytes_eq name (codes "--maker")) refl refl more
-        (λ more. tested name (codes "--profile") setting.Profile s _ (bytes_eq name (codes "--profile")) refl refl more
-        (λ more. tested name (codes "--report") setting.Report s None (bytes_eq name (codes "--report")) refl refl more
-        (λ more. none_some s more))))))))
+    (λ more. tested name (codes "--steps") setting.Steps s _ (bytes_eq name (codes "--steps")) refl refl more
+    (λ more. tested name (codes "--store") setting.Store s _ (bytes_eq name (codes "--store")) refl refl more
+    (λ more. tested name (codes "--away") setting.Away s _ (bytes_eq name (codes "--away")) refl refl more
+    (λ more. tested name (codes "--heap") setting.Heap s _ (bytes_eq name (codes "--heap")) refl refl more
+    (λ more. tested name (codes "--maker") setting.Maker s _ (bytes_eq name (codes "--maker")) refl refl more
+    (λ more. tested name (codes "--profile") setting.Profile s _ (bytes_eq name (codes "--profile")) refl refl more
+    (λ more. tested name (codes "--report") setting.Report s None (bytes_eq name (codes "--report")) refl refl more
+    (λ more. none_some s more))))))))
 
 tested_verb : (name text : List ℕ) (t s : Verb) (rest : Option Verb) (b : Bool) → b ≡ bytes_eq name text → text ≡ verb_name t → cond b (Some t) rest ≡ Some s → (rest ≡ Some s → name ≡ verb_name s) → name ≡ verb_name s
 tested_verb name text t s rest true test is found others = same_text name text test ∙ is ∙ ap verb_name (same_some t s found)
@@ -44,13 +44,13 @@ tested_verb name text t s rest false test is found others = others found
 pub verb_is : (name : List ℕ) (s : Verb) → verb_named name ≡ Some s → name ≡ verb_name s
 verb_is name s named =
     tested_verb name (codes "run") verb.Run s _ (bytes_eq name (codes "run")) refl refl named
-        (λ more. tested_verb name (codes "compile") verb.Compile s _ (bytes_eq name (codes "compile")) refl refl more
-        (λ more. tested_verb name (codes "exec") verb.Exec s _ (bytes_eq name (codes "exec")) refl refl more
-        (λ more. tested_verb name (codes "check") verb.Check s _ (bytes_eq name (codes "check")) refl refl more
-        (λ more. tested_verb name (codes "audit") verb.Audit s _ (bytes_eq name (codes "audit")) refl refl more
-        (λ more. tested_verb name (codes "sample") verb.Sample s _ (bytes_eq name (codes "sample")) refl refl more
-        (λ more. tested_verb name (codes "migrate") verb.Migrate s None (bytes_eq name (codes "migrate")) refl refl more
-        (λ more. none_some s more)))))))
+    (λ more. tested_verb name (codes "compile") verb.Compile s _ (bytes_eq name (codes "compile")) refl refl more
+    (λ more. tested_verb name (codes "exec") verb.Exec s _ (bytes_eq name (codes "exec")) refl refl more
+    (λ more. tested_verb name (codes "check") verb.Check s _ (bytes_eq name (codes "check")) refl refl more
+    (λ more. tested_verb name (codes "audit") verb.Audit s _ (bytes_eq name (codes "audit")) refl refl more
+    (λ more. tested_verb name (codes "sample") verb.Sample s _ (bytes_eq name (codes "sample")) refl refl more
+    (λ more. tested_verb name (codes "migrate") verb.Migrate s None (bytes_eq name (codes "migrate")) refl refl more
+    (λ more. none_some s more)))))))
 
 pub verb_found : (v : Verb) → verb_named (verb_name v) ≡ Some v
 verb_found verb.Run = refl

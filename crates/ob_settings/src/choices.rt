@@ -105,31 +105,19 @@ impl Choices {
                 Some(Choices { mode, ..self })
             }
             Setting::Steps => {
-                let steps = Some(first_choice(
-                    self.steps,
-                    number_between(0, MOST_STEPS, number),
-                )?);
+                let steps = Some(first_choice(self.steps, number_between(0, MOST_STEPS, number))?);
                 Some(Choices { steps, ..self })
             }
             Setting::Store => {
-                let store = Some(first_choice(
-                    self.store,
-                    number_between(1, MOST_STORE, number),
-                )?);
+                let store = Some(first_choice(self.store, number_between(1, MOST_STORE, number))?);
                 Some(Choices { store, ..self })
             }
             Setting::Away => {
-                let away = Some(first_choice(
-                    self.away,
-                    number_between(0, MOST_AWAY, number),
-                )?);
+                let away = Some(first_choice(self.away, number_between(0, MOST_AWAY, number))?);
                 Some(Choices { away, ..self })
             }
             Setting::Heap => {
-                let heap = Some(first_choice(
-                    self.heap,
-                    number_between(0, MOST_HEAP, number),
-                )?);
+                let heap = Some(first_choice(self.heap, number_between(0, MOST_HEAP, number))?);
                 Some(Choices { heap, ..self })
             }
             Setting::Maker => {

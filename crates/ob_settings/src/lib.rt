@@ -18,4 +18,6 @@ mod job;
 mod numbers;
 mod option;
 mod reader;
+#[cfg(test)]
+mod tests;
 mod verb;

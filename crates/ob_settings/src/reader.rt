@@ -122,11 +122,9 @@ impl Reader {
         }
         match behind {
             [] => None,
-            [value, ..] => taking_two(self.choosing(self.choices.chosen(
-                verb,
-                setting,
-                value.as_str(),
-            ))),
+            [value, ..] => taking_two(self.choosing(
+                self.choices.chosen(verb, setting, value.as_str()),
+            )),
         }
     }
 
@@ -136,7 +134,9 @@ impl Reader {
     {
         match word.split_once('=') {
             Some((name, value)) => match Setting::named(name) {
-                Some(setting) => taking_one(self.choosing(self.choices.chosen(verb, setting, value))),
+                Some(setting) => taking_one(self.choosing(
+                    self.choices.chosen(verb, setting, value),
+                )),
                 None => None,
             },
             None => match Setting::named(word) {
