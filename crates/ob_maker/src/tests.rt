@@ -16,7 +16,11 @@ fn first_numbers(rt: HostRuntime) {
                 _ => third,
             };
             if turn % 3 == 2 {
-                third = if third == 255 { 2 } else { third.wrapping_add(1) };
+                third = if third == 255 {
+                    2
+                } else {
+                    third.wrapping_add(1)
+                };
             }
             assert_eq!(rt; small.next(), wanted, "small at {turn}");
             assert_eq!(rt; zero.next(), 0);
