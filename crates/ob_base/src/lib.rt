@@ -28,6 +28,7 @@ pub use folder::{FileAnswer, Folder};
 pub use mem_folder::MemFolder;
 pub use mem_sink::MemSink;
 pub use mem_source::MemSource;
+pub use names::is_name;
 pub use owned::{
     boxed, boxed_three, boxed_two, boxed_with, let_go, listed, push_on, push_with, with_last,
 };
@@ -43,6 +44,7 @@ mod folder;
 mod mem_folder;
 mod mem_sink;
 mod mem_source;
+mod names;
 mod owned;
 mod schedule;
 mod sink;
