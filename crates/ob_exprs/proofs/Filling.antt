@@ -1,12 +1,10 @@
 -- A pending node with least operands for what doesn't stand there yet, and its nodes that have begun.
-use Rattle.std.proofs.Common.{◌≡◌, ℕ, zero, suc, ◌+◌, ◌-◌, ◌≤◌, inl, inr, max, List, [], ◌∷◌, ◌++◌, length, Bool, true, false, refl, ◌∙◌, ap, arith, append_assoc, length-append}
+use Rattle.std.proofs.Common.{◌≡◌, ℕ, zero, suc, ◌+◌, ◌-◌, ◌≤◌, max, List, [], ◌∷◌, ◌++◌, length, Bool, true, false, refl, ◌∙◌, ap, arith, append_assoc, length-append}
 use Rattle.ob_tree.specs.declared.tokens.TokenKind.{TokenKind}
 use Rattle.ob_tree.specs.declared.tokens.TokenKind.TheVariants as kind
-use Rattle.ob_tree.specs.declared.tokens.Keyword.{Keyword}
 use Rattle.ob_tree.specs.declared.tokens.Keyword.TheVariants as word
 use Rattle.ob_tree.specs.declared.tokens.Sign.TheVariants as sign
 use Rattle.ob_tree.specs.Bytes.{is_letter, is_name_byte, is_digit}
-use Rattle.ob_tree.specs.Words.{word_text, IsQualifier}
 use Rattle.ob_tree.specs.Trees.{Mark, ExprTree, ExprTrees, TypeTree, SpecTree, MemberTrees, ObjTree, ObjTrees, DimTrees}
 use Rattle.ob_tree.specs.Spelling.{spell, spell_type, spell_spec, spell_members, spell_obj, spell_name}
 use Rattle.ob_tree.specs.Valid.{ValidName, ValidArguments, ValidType, ValidSpec, ValidMembers, ValidMemberNames, ValidMemberName, ValidDims, IsOf}
@@ -25,53 +23,9 @@ leaf = ExprTree.Null (record { first = 0; at = 0; line = 0 })
 abbrev pub x : List ℕ
 x = 120 ∷ []
 
-words-long : (w : Keyword) → 2 ≤ length (word_text w)
-words-long word.Break = omega arith
-words-long word.Char = omega arith
-words-long word.Continue = omega arith
-words-long word.Do = omega arith
-words-long word.Else = omega arith
-words-long word.For = omega arith
-words-long word.If = omega arith
-words-long word.Int = omega arith
-words-long word.Long = omega arith
-words-long word.Return = omega arith
-words-long word.Short = omega arith
-words-long word.Signed = omega arith
-words-long word.Sizeof = omega arith
-words-long word.Static = omega arith
-words-long word.Struct = omega arith
-words-long word.Unsigned = omega arith
-words-long word.Void = omega arith
-words-long word.While = omega arith
-words-long word.Null = omega arith
-words-long word.Eof = omega arith
-words-long word.SizeT = omega arith
-words-long word.Auto = omega arith
-words-long word.Case = omega arith
-words-long word.Default = omega arith
-words-long word.Double = omega arith
-words-long word.Enum = omega arith
-words-long word.Extern = omega arith
-words-long word.Float = omega arith
-words-long word.Goto = omega arith
-words-long word.Inline = omega arith
-words-long word.Switch = omega arith
-words-long word.Typedef = omega arith
-words-long word.Union = omega arith
-words-long word.Volatile = omega arith
-words-long word.Bool = omega arith
-words-long word.Complex = omega arith
-words-long word.Imaginary = omega arith
-
-no-qualifier : IsQualifier x → ⊥
-no-qualifier (inl e) = omega (arith, ap length e)
-no-qualifier (inr (inl e)) = omega (arith, ap length e)
-no-qualifier (inr (inr e)) = omega (arith, ap length e)
-
 pub valid-x : ValidName x
 unfolding is_letter is_name_byte is_digit
-valid-x = (record { first = refl; letters = refl; no_word = λ w e. omega (arith, words-long w, ap length e); no_qualifier = no-qualifier }, omega arith)
+valid-x = (refl, omega arith)
 
 -- what begins of lists with one item more
 pub begun-argument : (es : ExprTrees) (e : ExprTree) (k j : ℕ) → ValidArguments es → k ≡ length (spell_arguments_before es) + j

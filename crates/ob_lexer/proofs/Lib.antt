@@ -17,4 +17,4 @@ pub mod QuotePieces
 pub mod Scanning
 pub mod SourceTokens
 pub mod SomeReading
-pub mod PlaceLemmas
+pub mod CursorLemmas

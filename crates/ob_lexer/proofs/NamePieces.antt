@@ -6,6 +6,7 @@ use Rattle.std.specs.List.{list_all, prefix_len}
 use Rattle.std.specs.Str.{bytes_eq}
 use Rattle.ob_tree.specs.Bytes.{begins_with, is_letter, is_name_byte, is_digit}
 use Rattle.ob_tree.specs.Words.{word_text, IsQualifier, IsName}
+use Rattle.ob_tree.proofs.Names.{all-letters, no-keyword, no-qualifier, name-of}
 use Rattle.ob_tree.specs.Pieces.{IsPiece}
 use Rattle.ob_tree.specs.declared.tokens.TokenKind.{TokenKind}
 use Rattle.ob_tree.specs.declared.tokens.TokenKind.TheVariants as kind
@@ -128,13 +129,13 @@ kind-name : (text : List ℕ) → IsName text → name_kind text ≡ Some (kind.
 kind-name text h = by (keyword_of text) refl (is_qualifier text) refl
   where
     by : (o : Option Keyword) → keyword_of text ≡ o → (b : Bool) → is_qualifier text ≡ b → word_or_name text o ≡ Some (kind.Name text)
-    by (Some k) e b f = absurd (h.no_word k (keyword-text text k e))
-    by None e true f = absurd (h.no_qualifier (qualifier-is text f))
+    by (Some k) e b f = absurd (no-keyword text h k (keyword-text text k e))
+    by None e true f = absurd (no-qualifier text h (qualifier-is text f))
     by None e false f = rw f refl
 
 letters-piece : (t : List ℕ) (p : Option TokenKind) → IsNamePiece t p → list_all is_name_byte t ≡ true
 letters-piece t p (inl h) = ap (list_all is_name_byte) h.1 ∙ letters-text h.0
-letters-piece t p (inr (inl h)) = h.0.letters
+letters-piece t p (inr (inl h)) = all-letters t h.0
 letters-piece t p (inr (inr h)) = letters-qualifier t h.0
 
 kind-piece : (t : List ℕ) (p : Option TokenKind) → IsNamePiece t p → p ≡ name_kind t
@@ -159,12 +160,7 @@ possible-name before text after f l = by (keyword_of text) refl (is_qualifier te
     pick true g e = inr (inr (inl (qualifier-is text g)))
     pick false g e = (
       refl,
-      record {
-        first = f;
-        letters = l;
-        no_word = λ k h. qualifier-no-word text k e h;
-        no_qualifier = λ q. false≢true (sym g ∙ is-qualifier text q);
-      },
+      name-of text f l (λ k h. qualifier-no-word text k e h) (λ q. false≢true (sym g ∙ is-qualifier text q)),
     )
 
     by : (o : Option Keyword) → keyword_of text ≡ o → (b : Bool) → is_qualifier text ≡ b → IsPiece before text after (word_or_name text o)

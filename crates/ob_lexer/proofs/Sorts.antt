@@ -4,6 +4,7 @@ use Rattle.std.proofs.lemmas.Bool.{and_from, false_from_ne_true, cond_both, eqb-
 use Rattle.std.proofs.lemmas.List.{append_assoc}
 use Rattle.ob_tree.specs.Bytes.{is_white, is_letter, is_digit, is_nonzero_digit, begins_with}
 use Rattle.ob_tree.specs.Words.{word_text, IsQualifier, IsName}
+use Rattle.ob_tree.proofs.Names.{first-letter}
 use Rattle.ob_tree.specs.Signs.{sign_text, begins_comment, IsSign}
 use Rattle.ob_tree.specs.Constants.{IsNumber, IsConstant, IsDigits, IsWideConstant}
 use Rattle.ob_tree.specs.Characters.{IsCharacter, IsString, IsOpenQuote, IsWideQuote, IsQuote}
@@ -220,7 +221,7 @@ token-sort before t a (kind.Word k) h =
     at-sort Sort.Name before t a (Some (kind.Word k)) (subst (λ u. sort_of (u ++ a) ≡ Sort.Name) (sym h) (word-sort k a)) (inl (k, h, refl))
 token-sort before t a (kind.Name n) h =
     at-sort Sort.Name before t a (Some (kind.Name n))
-    (subst (λ u. sort_of (u ++ a) ≡ Sort.Name) (sym h.0) (begins-sort is_letter Sort.Name n a letter-sort h.1.first))
+    (subst (λ u. sort_of (u ++ a) ≡ Sort.Name) (sym h.0) (begins-sort is_letter Sort.Name n a letter-sort (first-letter n h.1)))
     (inr (inl (subst IsName (sym h.0) h.1, ap (λ m. Some (kind.Name m)) (sym h.0))))
 token-sort before t a (kind.Number v ty) (inl h) =
     at-sort Sort.Number before t a (Some (kind.Number v ty)) (constant-sort t a h.base h.suffix h.amount h.constant) (v, ty, h, refl)

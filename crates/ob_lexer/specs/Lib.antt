@@ -1,4 +1,4 @@
 pub mod Texts
 pub mod Scan
 pub mod Endings
-pub mod Places
+pub mod Cursors

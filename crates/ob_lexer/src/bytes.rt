@@ -65,21 +65,21 @@ pub fn front(bytes: &[u8], n: usize) -> &[u8]
     if n <= bytes.len() { &bytes[..n] } else { bytes }
 }
 
-#[tactic(auto, unfolding(ob_tree::specs::Bytes::is_letter))]
+#[tactic(auto, unfolding(ob_base::specs::Names::is_letter))]
 fn is_letter(byte: u8) -> bool
     ensures { result ≡ is_letter byte }
 {
     is_within(b'a', b'z', byte) || is_within(b'A', b'Z', byte) || byte == b'_'
 }
 
-#[tactic(auto, unfolding(ob_tree::specs::Bytes::is_name_byte))]
+#[tactic(auto, unfolding(ob_base::specs::Names::is_name_byte))]
 fn is_name_byte(byte: u8) -> bool
     ensures { result ≡ is_name_byte byte }
 {
     is_letter(byte) || is_digit(byte)
 }
 
-#[tactic(auto, unfolding(ob_tree::specs::Bytes::is_digit))]
+#[tactic(auto, unfolding(ob_base::specs::Names::is_digit))]
 fn is_digit(byte: u8) -> bool
     ensures { result ≡ is_digit byte }
 {

@@ -6,7 +6,7 @@ ghost use Rattle.ob_tree.specs.declared.faults.LexKind.{LexKind};
 ghost use Rattle.ob_lexer.specs.Texts.{Spells, StopsAt, HasLexFault, fault_of};
 
 use crate::bytes::{front, skip};
-use crate::place::Place;
+use crate::cursor::Cursor;
 use crate::scanner::scan;
 use ob_tree::{LexFault, Token};
 use std::alloc::Global;
@@ -29,7 +29,7 @@ pub fn lex(alloc: Global, bytes: &[u8]) -> Result<Vec<Token>, LexFault>
     ensures of_source { IfOk result (λ tokens. All (λ t. IsOfSource t.kind) tokens.items) }
 {
     let mut tokens = Vec::new(alloc);
-    let mut place = Place::start();
+    let mut place = Cursor::start();
     while place.at < bytes.len() {
         let rest = skip(bytes, place.at);
         match scan(alloc, place.fresh, rest) {

@@ -6,14 +6,14 @@ use ob_tree::{LexKind, TokenKind};
 use std::alloc::AllocError;
 
 /// A piece that was taken: the token that it is, or none for a space, and how many bytes it has.
-#[derive(Debug, Drop)]
+#[derive(Drop)]
 pub struct Taken {
     pub kind: Option<TokenKind>,
     pub length: usize,
 }
 
 /// Why no piece was taken.
-#[derive(Clone, Copy, Debug, PartialEq, Eq)]
+#[derive(Clone, Copy)]
 pub enum Refusal {
     Fault(LexKind),
     NoMemory,

@@ -4,13 +4,13 @@ use Rattle.std.specs.Prelude.{◌&&◌}
 use Rattle.std.proofs.lemmas.Bool.Decides.{nat_tests}
 use Rattle.std.proofs.lemmas.List.{take_more}
 use Rattle.ob_tree.specs.Bytes.{is_blank}
-use Rattle.ob_lexer.specs.declared.place.Place.{Place}
-use Rattle.ob_lexer.specs.Places.{place_of, step}
-use Rattle.ob_lexer.proofs.PlaceLemmas.{moved-place, place-small}
+use Rattle.ob_lexer.specs.declared.cursor.Cursor.{Cursor}
+use Rattle.ob_lexer.specs.Cursors.{place_of, advance}
+use Rattle.ob_lexer.proofs.CursorLemmas.{moved-place, place-small}
 use Rattle.ob_program.specs.Sources.{position_behind}
 use Rattle.ob_program.specs.declared.refusal.Position.{Position}
 
-abbrev position_at : Place → Position
+abbrev position_at : Cursor → Position
 position_at p = record { line = p.line; column = p.column }
 
 -- the place behind one more byte
@@ -21,14 +21,14 @@ position_is : (before : List ℕ) → position_at (place_of before) ≡ position
 unfolding place_of
 position_is before = refl
 
-step_is : (p : Place) (c : ℕ) → position_at (step p c) ≡ next_position (position_at p) c
-unfolding step
-step_is p c = by (eqb c 10)
+advance_is : (p : Cursor) (c : ℕ) → position_at (advance p c) ≡ next_position (position_at p) c
+unfolding advance
+advance_is p c = by (eqb c 10)
   where
-    feed : Place
+    feed : Cursor
     feed = record { at = p.at + 1; line = p.line + 1; column = 1; fresh = true }
 
-    other : Place
+    other : Cursor
     other = record { at = p.at + 1; line = p.line; column = p.column + 1; fresh = p.fresh && is_blank c }
 
     by : (b : Bool) → position_at (cond b feed other) ≡ cond b (position_at feed) (position_at other)
@@ -37,7 +37,7 @@ step_is p c = by (eqb c 10)
 
 pub position_push : (before : List ℕ) (c : ℕ) → position_behind (before ++ c ∷ []) ≡ next_position (position_behind before) c
 position_push before c =
-    sym (position_is (before ++ c ∷ [])) ∙ ap position_at (sym (moved-place before (c ∷ []))) ∙ step_is (place_of before) c ∙ ap (λ s. next_position s c) (position_is before)
+    sym (position_is (before ++ c ∷ [])) ∙ ap position_at (sym (moved-place before (c ∷ []))) ∙ advance_is (place_of before) c ∙ ap (λ s. next_position s c) (position_is before)
 
 -- lines and columns are at most one more than the bytes
 pub record Small (s : Position) (n : ℕ) : Type 0 where

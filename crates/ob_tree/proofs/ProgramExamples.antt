@@ -1,10 +1,8 @@
 -- Small programs, valid and not, as the grammar's definitions decide them.
-use Rattle.std.proofs.Common.{◌≡◌, ℕ, List, [], ◌∷◌, length, true, false, Bool, Option, None, Some, refl, ap, arith}
+use Rattle.std.proofs.Common.{◌≡◌, ℕ, List, [], ◌∷◌, true, false, Bool, Option, None, Some, refl, arith}
 use Rattle.std.specs.Prelude.{codes, ◌+◌}
-use Rattle.ob_tree.specs.declared.tokens.Keyword.{Keyword}
 use Rattle.ob_tree.specs.declared.tokens.Keyword.TheVariants as word
 use Rattle.ob_tree.specs.Bytes.{is_letter, is_name_byte}
-use Rattle.ob_tree.specs.Words.{IsQualifier, word_text}
 use Rattle.ob_tree.specs.Trees.{ExprTree, SpecTree, MemberTrees, ObjTree, ObjTrees, DimTrees, InitTree, InitTrees}
 use Rattle.ob_tree.specs.Programs.{LocalTree, StartTree, StmtTree, BlockTrees, ParamTree, ParamsTree, FileTree, ItemTree}
 use Rattle.ob_tree.specs.Valid.{ValidName}
@@ -21,16 +19,9 @@ int = SpecTree.Integer 0 (word.Int ∷ [])
 abbrev f : List ℕ
 f = codes "f"
 
-no_word : (keyword : Keyword) → f ≡ word_text keyword → ⊥
-no_word word.Break e = omega (arith, ap length e)
-no_word _ e = omega (arith, ap length e)
-
-no_qualifier : IsQualifier f → ⊥
-no_qualifier q = grind arith
-
 is_name : ValidName f
 unfolding is_letter is_name_byte
-is_name = (record { first = refl; letters = refl; no_word = no_word; no_qualifier = no_qualifier }, omega arith)
+is_name = (refl, omega arith)
 
 abbrev empty : StmtTree
 empty = StmtTree.Expr 0 0 None

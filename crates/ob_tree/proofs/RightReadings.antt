@@ -10,8 +10,8 @@ use Rattle.ob_tree.specs.declared.tokens.Token.{Token}
 use Rattle.ob_tree.specs.declared.tokens.TokenKind.{TokenKind}
 use Rattle.ob_tree.specs.Valid.{IsOfSource}
 use Rattle.ob_tree.specs.Fronts.{greatest_path, kinds, within, any, FrontOf}
-use Rattle.ob_tree.specs.Verdicts.{IsLeastWithout, Stops, Verdict, IsVerdict}
-use Rattle.ob_tree.specs.Readings.{Reading, Reached, Deep, turn, read, found, verdict, CorrectPrefix}
+use Rattle.ob_tree.specs.Verdicts.{Stops, Verdict, IsVerdict}
+use Rattle.ob_tree.specs.Readings.{Deep, turn, read, found, verdict, CorrectPrefix}
 
 -- one token more of a list
 take-next : {A : Type 0} (xs : List A) (n : ℕ) (x : A) (rest : List A) → drop n xs ≡ x ∷ rest → take (n + 1) xs ≡ take n xs ++ x ∷ []

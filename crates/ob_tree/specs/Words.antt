@@ -1,7 +1,6 @@
--- Keywords and identifiers (C99 6.4.1 and 6.4.2).
-use Rattle.std.specs.Prelude.{◌≡◌, ℕ, List, ◌⊎◌, IsTrue, codes}
-use Rattle.std.specs.List.{list_all}
-use Rattle.ob_tree.specs.Bytes.{is_letter, is_name_byte, begins_with}
+-- Keywords (C99 6.4.1). What a name is stands in ob_base.
+use Rattle.std.specs.Prelude.{◌≡◌, ℕ, List, ◌⊎◌, codes}
+pub use Rattle.ob_base.specs.Names.{IsName}
 use Rattle.ob_tree.specs.declared.tokens.Keyword.{Keyword}
 use Rattle.ob_tree.specs.declared.tokens.Keyword.TheVariants as word
 
@@ -48,10 +47,3 @@ word_text word.Imaginary = codes "_Imaginary"
 -- the type qualifiers and the storage class that read as spaces
 abbrev pub IsQualifier : List ℕ → Type 0
 IsQualifier text = (text ≡ codes "const") ⊎ ((text ≡ codes "register") ⊎ (text ≡ codes "restrict"))
-
--- A name: a letter or `_`, then letters, digits and `_`, that is no reserved word and no qualifier.
-pub record IsName (text : List ℕ) : Type 0 where
-  pub first : IsTrue (begins_with is_letter text)
-  pub letters : IsTrue (list_all is_name_byte text)
-  pub no_word : (keyword : Keyword) → text ≡ word_text keyword → ⊥
-  pub no_qualifier : IsQualifier text → ⊥

@@ -18,7 +18,7 @@ pub enum LexKind {
 
 /// Why a source text is no run of tokens and spaces: the kind, with the place of the fault as a
 /// number of bytes from the text's begin, or want of memory.
-#[derive(Clone, Copy, Debug, PartialEq, Eq)]
+#[derive(Clone, Copy)]
 pub enum LexFault {
     Stray(u32),
     Unclosed(u32),
@@ -60,7 +60,7 @@ pub enum SyntaxKind {
 
 /// Why tokens have no tree: the kind, with the place of the token that no tree goes on with, counted
 /// from 0 (the number of tokens where all of them are the begin of a tree), or want of memory.
-#[derive(Clone, Copy, Debug, PartialEq, Eq)]
+#[derive(Clone, Copy)]
 pub enum SyntaxFault {
     NoTree(u32),
     TooDeep(u32),
@@ -92,7 +92,7 @@ impl<T: Drop> From<AllocFailed<T>> for SyntaxFault {
 }
 
 /// Which constraint of C99 6.5 to 6.9, or limit of this language, a program breaks.
-#[derive(Clone, Copy, Debug, PartialEq, Eq)]
+#[derive(Clone, Copy)]
 pub enum TypeKind {
     /// A name that isn't declared (C99 6.5.1).
     Unknown,
@@ -126,7 +126,7 @@ pub enum TypeKind {
 
 /// Why a program has no types: the kind of its first fault with the place of a token, counted from 0,
 /// or want of memory. The greatest place stands for no token.
-#[derive(Clone, Copy, Debug, PartialEq, Eq)]
+#[derive(Clone, Copy)]
 pub enum TypeFault {
     Fault(TypeKind, u32),
     NoMemory,
@@ -159,7 +159,7 @@ impl<T: Drop> From<AllocFailed<T>> for TypeFault {
 /// Why a source isn't compiled: a fault of its tokens, of its syntax or of its types, with the line
 /// and the column where it stands, both counted from 1; static objects or code past their limits; or
 /// want of memory.
-#[derive(Clone, Copy, Debug, PartialEq, Eq)]
+#[derive(Clone, Copy)]
 pub enum SourceFault {
     Lex {
         kind: LexKind,

@@ -11,14 +11,6 @@ use crate::tokens::{Keyword, Sign, TokenKind};
 use ob_base::{NoMemory, Text};
 use std::alloc::Global;
 
-fn copy_of(alloc: Global, text: &Text) -> Result<Text, NoMemory>
-    ensures { IfOk result (λ t. t ≡ text.now) }
-{
-    let mut copy = Text::new(alloc);
-    copy.add(text.bytes())?;
-    Ok(copy)
-}
-
 pub fn put_sign(out: &mut Vec<TokenKind>, sign: Sign) -> Result<(), NoMemory>
     ensures { OnOk result (out.new.items ≡ out.old.items ++ TokenKind.Sign sign ∷ []) }
 {
@@ -36,7 +28,7 @@ pub fn put_word(out: &mut Vec<TokenKind>, word: Keyword) -> Result<(), NoMemory>
 pub fn put_name(alloc: Global, out: &mut Vec<TokenKind>, name: &Text) -> Result<(), NoMemory>
     ensures { OnOk result (out.new.items ≡ out.old.items ++ TokenKind.Name name.now ∷ []) }
 {
-    let name = copy_of(alloc, name)?;
+    let name = name.copy(alloc)?;
     out.push(TokenKind::Name(name))?;
     Ok(())
 }
@@ -54,7 +46,7 @@ fn put_strings(alloc: Global, out: &mut Vec<TokenKind>, strings: &[Text]) -> Res
     ensures { OnOk result (out.new.items ≡ out.old.items ++ map TokenKind.Str strings.now) }
 {
     for string in strings {
-        let string = copy_of(alloc, string)?;
+        let string = string.copy(alloc)?;
         out.push(TokenKind::Str(string))?;
     }
     Ok(())
@@ -114,6 +106,57 @@ fn put_last_comma(out: &mut Vec<TokenKind>, comma: bool) -> Result<(), NoMemory>
     }
 }
 
+/// Puts a sign and a name: the member that is selected.
+fn put_selected(
+    alloc: Global,
+    out: &mut Vec<TokenKind>,
+    sign: Sign,
+    name: &Text,
+) -> Result<(), NoMemory>
+    ensures { OnOk result (out.new.items ≡ out.old.items ++ TokenKind.Sign sign ∷ (TokenKind.Name name.now ∷ [])) }
+{
+    put_sign(out, sign)?;
+    put_name(alloc, out, name)
+}
+
+/// Puts a sign and the operand behind it.
+#[cycle(spell)]
+fn put_signed(alloc: Global, out: &mut Vec<TokenKind>, sign: Sign, e: &Expr) -> Result<(), NoMemory>
+    ensures { OnOk result (out.new.items ≡ out.old.items ++ TokenKind.Sign sign ∷ spell (expr_tree e.now)) }
+{
+    put_sign(out, sign)?;
+    put_expr(alloc, out, e)
+}
+
+/// Puts an expression between two signs.
+#[cycle(spell)]
+fn put_enclosed(
+    alloc: Global,
+    out: &mut Vec<TokenKind>,
+    before: Sign,
+    e: &Expr,
+    after: Sign,
+) -> Result<(), NoMemory>
+    ensures { OnOk result (out.new.items ≡ out.old.items ++ TokenKind.Sign before ∷ (spell (expr_tree e.now) ++ TokenKind.Sign after ∷ [])) }
+{
+    put_signed(alloc, out, before, e)?;
+    put_sign(out, after)
+}
+
+/// Puts a type name in parentheses.
+#[cycle(spell)]
+fn put_enclosed_type(
+    alloc: Global,
+    out: &mut Vec<TokenKind>,
+    name: &TypeName,
+) -> Result<(), NoMemory>
+    ensures { OnOk result (out.new.items ≡ out.old.items ++ TokenKind.Sign Sign.OpenParen ∷ (spell_type (type_tree name.now) ++ TokenKind.Sign Sign.CloseParen ∷ [])) }
+{
+    put_sign(out, Sign::OpenParen)?;
+    put_type(alloc, out, name)?;
+    put_sign(out, Sign::CloseParen)
+}
+
 /// Puts the token kinds of the expression behind those of `out`.
 #[cycle(spell)]
 pub fn put_expr(alloc: Global, out: &mut Vec<TokenKind>, e: &Expr) -> Result<(), NoMemory>
@@ -131,16 +174,10 @@ pub fn put_expr(alloc: Global, out: &mut Vec<TokenKind>, e: &Expr) -> Result<(),
         ExprNode::Null => put_word(out, Keyword::Null),
         ExprNode::Eof => put_word(out, Keyword::Eof),
         ExprNode::Str(strings) => put_strings(alloc, out, strings),
-        ExprNode::Paren(e) => {
-            put_sign(out, Sign::OpenParen)?;
-            put_expr(alloc, out, e)?;
-            put_sign(out, Sign::CloseParen)
-        }
+        ExprNode::Paren(e) => put_enclosed(alloc, out, Sign::OpenParen, e, Sign::CloseParen),
         ExprNode::Index(base, index) => {
             put_expr(alloc, out, base)?;
-            put_sign(out, Sign::OpenBracket)?;
-            put_expr(alloc, out, index)?;
-            put_sign(out, Sign::CloseBracket)
+            put_enclosed(alloc, out, Sign::OpenBracket, index, Sign::CloseBracket)
         }
         ExprNode::Call(name, arguments) => {
             put_name(alloc, out, name)?;
@@ -150,13 +187,11 @@ pub fn put_expr(alloc: Global, out: &mut Vec<TokenKind>, e: &Expr) -> Result<(),
         }
         ExprNode::Member(base, name) => {
             put_expr(alloc, out, base)?;
-            put_sign(out, Sign::Dot)?;
-            put_name(alloc, out, name)
+            put_selected(alloc, out, Sign::Dot, name)
         }
         ExprNode::Arrow(base, name) => {
             put_expr(alloc, out, base)?;
-            put_sign(out, Sign::Arrow)?;
-            put_name(alloc, out, name)
+            put_selected(alloc, out, Sign::Arrow, name)
         }
         ExprNode::Step {
             post: true,
@@ -174,47 +209,35 @@ pub fn put_expr(alloc: Global, out: &mut Vec<TokenKind>, e: &Expr) -> Result<(),
             put_step(out, *down)?;
             put_expr(alloc, out, e)
         }
-        ExprNode::Unary(sign, e) => {
-            put_sign(out, *sign)?;
-            put_expr(alloc, out, e)
-        }
+        ExprNode::Unary(sign, e) => put_signed(alloc, out, *sign, e),
         ExprNode::SizeExpr(e) => {
             put_word(out, Keyword::Sizeof)?;
             put_expr(alloc, out, e)
         }
         ExprNode::SizeType(name) => {
             put_word(out, Keyword::Sizeof)?;
-            put_sign(out, Sign::OpenParen)?;
-            put_type(alloc, out, name)?;
-            put_sign(out, Sign::CloseParen)
+            put_enclosed_type(alloc, out, name)
         }
         ExprNode::Cast(name, e) => {
-            put_sign(out, Sign::OpenParen)?;
-            put_type(alloc, out, name)?;
-            put_sign(out, Sign::CloseParen)?;
+            put_enclosed_type(alloc, out, name)?;
             put_expr(alloc, out, e)
         }
         ExprNode::Binary(sign, left, right) => {
             put_expr(alloc, out, left)?;
-            put_sign(out, *sign)?;
-            put_expr(alloc, out, right)
+            put_signed(alloc, out, *sign, right)
         }
         ExprNode::Cond(test, then, other) => {
             put_expr(alloc, out, test)?;
-            put_sign(out, Sign::Question)?;
-            put_expr(alloc, out, then)?;
-            put_sign(out, Sign::Colon)?;
-            put_expr(alloc, out, other)
+            put_signed(alloc, out, Sign::Question, then)?;
+            put_signed(alloc, out, Sign::Colon, other)
         }
         ExprNode::Assign(sign, left, right) => {
             put_expr(alloc, out, left)?;
-            put_sign(out, *sign)?;
-            put_expr(alloc, out, right)
+            put_signed(alloc, out, *sign, right)
         }
         ExprNode::Comma(left, right) => {
             put_expr(alloc, out, left)?;
-            put_sign(out, Sign::Comma)?;
-            put_expr(alloc, out, right)
+            put_signed(alloc, out, Sign::Comma, right)
         }
     }
 }

@@ -2,7 +2,7 @@ use ob_base::Text;
 use ob_words::IntType;
 
 /// A token and where it stands.
-#[derive(Debug, Drop)]
+#[derive(Drop)]
 pub struct Token {
     pub kind: TokenKind,
     pub span: Span,
@@ -11,7 +11,7 @@ pub struct Token {
 /// Where a token stands: its bytes are those from `start` up to and not including `end`, counted
 /// from 0 in the source; `line` and `column` are those of its first byte, counted from 1. A line
 /// ends with a line feed, and a column counts bytes.
-#[derive(Clone, Copy, Debug, PartialEq, Eq)]
+#[derive(Clone, Copy)]
 pub struct Span {
     pub start: u32,
     pub end: u32,
@@ -20,7 +20,7 @@ pub struct Span {
 }
 
 /// What a token is (C99 6.4).
-#[derive(Debug, Drop)]
+#[derive(Drop)]
 pub enum TokenKind {
     /// A reserved word (C99 6.4.1), or one that this language reserves beside them.
     Word(Keyword),

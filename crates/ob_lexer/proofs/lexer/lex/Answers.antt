@@ -1,6 +1,6 @@
 use Rattle.std.proofs.Common.{arith, sym, subst}
 use Rattle.ob_lexer.specs.Texts.{HasLexFault}
-use Rattle.ob_lexer.proofs.PlaceLemmas.{reading-start, reading-small, reading-refused, took, reading-next, reading-end}
+use Rattle.ob_lexer.proofs.CursorLemmas.{reading-start, reading-small, reading-refused, took, reading-next, reading-end}
 use Rattle.ob_lexer.proofs.Scanning.{right-spelled, right-faulty, spells-same, spells-no-fault}
 use Rattle.ob_lexer.proofs.SourceTokens.{spells-few, spells-of-source}
 use Rattle.ob_lexer.proofs.lexer.lex.Goals as goal

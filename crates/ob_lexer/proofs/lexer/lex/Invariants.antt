@@ -1,5 +1,5 @@
 use Rattle.std.proofs.Common.{length, ◌-◌}
-use Rattle.ob_lexer.proofs.PlaceLemmas.{Reading}
+use Rattle.ob_lexer.proofs.CursorLemmas.{Reading}
 use Rattle.ob_lexer.proofs.lexer.lex.Given as goal
 
 abbrev pub invariant-loop-place : goal.invariant-loop-place

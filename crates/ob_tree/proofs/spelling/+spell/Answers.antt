@@ -20,7 +20,7 @@ pub put_expr-returns-in_ok-put_arguments-in-Call :
     goal.put_expr-returns-in_ok-put_arguments-in-Call
 put_expr-returns-in_ok-put_arguments-in-Call t c =
     let e = call-spelled c.args.e.now c.in-Call.name c.in-Call.arguments c.in-Call.is in
-    let P = λ (u : List TokenKind). OnOk c.put_sign-in-Call-2.result (c.put_sign-in-Call-2.new.out.items ≡ c.args.out.now.items ++ u) in
+    let P = λ (u : List TokenKind). OnOk c.put_sign-in-Call.result (c.put_sign-in-Call.new.out.items ≡ c.args.out.now.items ++ u) in
     subst P (sym e) (first_of (search rules, grind (arith, common_steps), search (rules, IfOk-equal, append_assoc)))
 
 pub put_init-returns-in_ok-put_last_comma-in-List :

@@ -1,6 +1,6 @@
 use Rattle.std.proofs.Common.{◌≡◌, ◌+◌, ◌≤◌, drop}
-use Rattle.ob_lexer.specs.Places.{moved}
-use Rattle.ob_lexer.proofs.place.Place.past.Given as goal
+use Rattle.ob_lexer.specs.Cursors.{moved}
+use Rattle.ob_lexer.proofs.cursor.Cursor.past.Given as goal
 
 abbrev pub invariant-loop-byte : goal.invariant-loop-byte
 invariant-loop-byte l = record {

@@ -8,12 +8,12 @@ use Rattle.ob_tree.specs.declared.tokens.TokenKind.{TokenKind}
 use Rattle.ob_tree.specs.declared.faults.LexFault.{LexFault}
 use Rattle.ob_tree.specs.declared.faults.LexFault.TheVariants as fault
 use Rattle.ob_lexer.specs.Texts.{fault_of}
-use Rattle.ob_lexer.specs.declared.place.Place.{Place}
+use Rattle.ob_lexer.specs.declared.cursor.Cursor.{Cursor}
 use Rattle.ob_lexer.specs.declared.taken.Refusal.{Refusal}
 use Rattle.ob_lexer.specs.declared.taken.Refusal.TheVariants as refusal
 
 -- the place behind these bytes
-unfoldable pub place_of : List ℕ → Place
+unfoldable pub place_of : List ℕ → Cursor
 place_of before = record {
   at = length before;
   line = 1 + count_by (λ c. c == 10) before;
@@ -22,18 +22,18 @@ place_of before = record {
 }
 
 -- the place behind one more byte
-unfoldable pub step : Place → ℕ → Place
-step place c =
+unfoldable pub advance : Cursor → ℕ → Cursor
+advance place c =
     if c == 10 then record { at = place.at + 1; line = place.line + 1; column = 1; fresh = true }
     else record { at = place.at + 1; line = place.line; column = place.column + 1; fresh = place.fresh && is_blank c }
 
 -- the place behind more bytes
-abbrev pub moved : Place → List ℕ → Place
+abbrev pub moved : Cursor → List ℕ → Cursor
 moved place [] = place
-moved place (c ∷ cs) = moved (step place c) cs
+moved place (c ∷ cs) = moved (advance place c) cs
 
 -- the token that stands from a place up to `past`, if any
-abbrev pub tokens_at : Place → (past : ℕ) → Option TokenKind → List Token
+abbrev pub tokens_at : Cursor → (past : ℕ) → Option TokenKind → List Token
 tokens_at place past None = []
 tokens_at place past (Some token) =
     record { kind = token; span = record { start = place.at; end = past; line = place.line; column = place.column } } ∷ []

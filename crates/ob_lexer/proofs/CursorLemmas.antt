@@ -10,16 +10,16 @@ use Rattle.ob_tree.specs.declared.tokens.Token.{Token}
 use Rattle.ob_tree.specs.declared.tokens.TokenKind.{TokenKind}
 use Rattle.ob_tree.specs.declared.faults.LexKind.{LexKind}
 use Rattle.ob_tree.specs.declared.faults.LexKind.TheVariants as kind
-use Rattle.ob_lexer.specs.declared.place.Place.{Place}
+use Rattle.ob_lexer.specs.declared.cursor.Cursor.{Cursor}
 use Rattle.ob_lexer.specs.declared.taken.Taken.{Taken}
 use Rattle.ob_lexer.specs.declared.taken.Refusal.{Refusal}
 use Rattle.ob_lexer.specs.declared.taken.Refusal.TheVariants as refusal
 use Rattle.ob_lexer.specs.Texts.{token_of, HasLexFault, StopsAt, Spells}
 use Rattle.ob_lexer.specs.Scan.{scan, Scans}
-use Rattle.ob_lexer.specs.Places.{place_of, step, moved, tokens_at, fault_at}
+use Rattle.ob_lexer.specs.Cursors.{place_of, advance, moved, tokens_at, fault_at}
 use Rattle.ob_lexer.proofs.Scanning.{Run, run-start, run-more, run-fault, run-end, is_fresh}
 
-abbrev make : ℕ → ℕ → ℕ → Bool → Place
+abbrev make : ℕ → ℕ → ℕ → Bool → Cursor
 make a l c f = record { at = a; line = l; column = c; fresh = f }
 
 same-make : (a b l m c d : ℕ) (f g : Bool) → a ≡ b → l ≡ m → c ≡ d → f ≡ g → make a l c f ≡ make b m d g
@@ -35,9 +35,9 @@ last_line-push before c = line_from-append [] before (c ∷ [])
 lines-push : (before : List ℕ) (c : ℕ) → count_by (λ c. eqb c 10) (before ++ c ∷ []) ≡ count_by (λ c. eqb c 10) before + (0 + cond (eqb c 10) 1 0)
 lines-push before c = sum_by-append (λ x. cond (eqb x 10) 1 0) before (c ∷ [])
 
-step-place : (before : List ℕ) (c : ℕ) → step (place_of before) c ≡ place_of (before ++ c ∷ [])
-unfolding step place_of
-step-place before c = by (eqb c 10) refl
+advance-place : (before : List ℕ) (c : ℕ) → advance (place_of before) c ≡ place_of (before ++ c ∷ [])
+unfolding advance place_of
+advance-place before c = by (eqb c 10) refl
   where
     n : ℕ
     n = count_by (λ c. eqb c 10) before
@@ -60,7 +60,7 @@ step-place before c = by (eqb c 10) refl
 pub moved-place : (before cs : List ℕ) → moved (place_of before) cs ≡ place_of (before ++ cs)
 moved-place before [] = ap place_of (sym (append-nil before))
 moved-place before (c ∷ cs) =
-    ap (λ p. moved p cs) (step-place before c) ∙ moved-place (before ++ c ∷ []) cs ∙ ap place_of (append_assoc before (c ∷ []) cs)
+    ap (λ p. moved p cs) (advance-place before c) ∙ moved-place (before ++ c ∷ []) cs ∙ ap place_of (append_assoc before (c ∷ []) cs)
 
 line-within : (line before : List ℕ) → length (line_from line before) ≤ length line + length before
 line-within line [] = omega arith
@@ -70,7 +70,7 @@ line-within line (c ∷ cs) = by (eqb c 10) (line-within [] cs) (line-within (li
     by true g h = omega (arith, g)
     by false g h = omega (arith, h, length_push line c)
 
-pub record Small (place : Place) : Type 0 where
+pub record Small (place : Cursor) : Type 0 where
   pub line : place.line ≤ place.at + 1
   pub column : place.column ≤ place.at + 1
 
@@ -100,35 +100,35 @@ fault-place text kind.Unclosed at h = h
 fault-place text kind.Wide at h = h
 
 -- What the loop keeps: the bytes before the place were read, and the place is theirs.
-pub record Reading (bytes : List ℕ) (tokens : List Token) (place : Place) : Type 0 where
+pub record Reading (bytes : List ℕ) (tokens : List Token) (place : Cursor) : Type 0 where
   pub run : Run bytes tokens place.at
   pub place_is : place ≡ place_of (take place.at bytes)
   pub within : place.at ≤ length bytes
 
-pub reading-small : (bytes : List ℕ) (tokens : List Token) (place : Place) → Reading bytes tokens place → Small place
+pub reading-small : (bytes : List ℕ) (tokens : List Token) (place : Cursor) → Reading bytes tokens place → Small place
 reading-small bytes tokens place r = subst Small (sym r.place_is) (place-small (take place.at bytes))
 
-pub reading-fault : (bytes : List ℕ) (tokens : List Token) (place : Place) (k : LexKind) → Reading bytes tokens place → place.at < length bytes → scan place.fresh (drop place.at bytes) ≡ Err k → HasLexFault bytes (fault_at (refusal.Fault k) place.at)
+pub reading-fault : (bytes : List ℕ) (tokens : List Token) (place : Cursor) (k : LexKind) → Reading bytes tokens place → place.at < length bytes → scan place.fresh (drop place.at bytes) ≡ Err k → HasLexFault bytes (fault_at (refusal.Fault k) place.at)
 reading-fault bytes tokens place k r l e =
-    fault-place bytes k place.at (run-fault bytes tokens place.at place.fresh k l (ap (λ (p : Place). p.fresh) r.place_is ∙ fresh-place (take place.at bytes)) e r.run)
+    fault-place bytes k place.at (run-fault bytes tokens place.at place.fresh k l (ap (λ (p : Cursor). p.fresh) r.place_is ∙ fresh-place (take place.at bytes)) e r.run)
 
 -- one more piece
-pub record ReadOn (bytes : List ℕ) (tokens : List Token) (place : Place) (w : Taken) : Type 0 where
+pub record ReadOn (bytes : List ℕ) (tokens : List Token) (place : Cursor) (w : Taken) : Type 0 where
   pub some : 1 ≤ w.length
   pub within : place.at + w.length ≤ length bytes
   pub next : Reading bytes (tokens ++ tokens_at place (place.at + w.length) w.kind) (moved place (take w.length (drop place.at bytes)))
   pub at_is : (moved place (take w.length (drop place.at bytes))).at ≡ place.at + w.length
 
-pub reading-more : (bytes : List ℕ) (tokens : List Token) (place : Place) (w : Taken) → Reading bytes tokens place → place.at < length bytes → scan place.fresh (drop place.at bytes) ≡ Ok w → ReadOn bytes tokens place w
+pub reading-more : (bytes : List ℕ) (tokens : List Token) (place : Cursor) (w : Taken) → Reading bytes tokens place → place.at < length bytes → scan place.fresh (drop place.at bytes) ≡ Ok w → ReadOn bytes tokens place w
 reading-more bytes tokens place w r l e =
     let before : List ℕ = take place.at bytes in
     let text : List ℕ = take w.length (drop place.at bytes) in
-    let m = run-more bytes tokens place.at place.fresh w l (ap (λ (p : Place). p.fresh) r.place_is ∙ fresh-place before) e r.run in
+    let m = run-more bytes tokens place.at place.fresh w l (ap (λ (p : Cursor). p.fresh) r.place_is ∙ fresh-place before) e r.run in
     let at : moved place text ≡ place_of (take (place.at + w.length) bytes) = ap (λ p. moved p text) r.place_is ∙ moved-place before text ∙ ap place_of m.read in
     let lb : length before ≡ place.at = length-take-le place.at bytes r.within in
     let size : place.at + w.length ≡ length before + length text =
     sym (length-take-le (place.at + w.length) bytes m.within) ∙ sym (ap length m.read) ∙ length-append before text in
-    let past : (moved place text).at ≡ place.at + w.length = ap (λ (p : Place). p.at) at ∙ at-place (take (place.at + w.length) bytes) ∙ length-take-le (place.at + w.length) bytes m.within in
+    let past : (moved place text).at ≡ place.at + w.length = ap (λ (p : Cursor). p.at) at ∙ at-place (take (place.at + w.length) bytes) ∙ length-take-le (place.at + w.length) bytes m.within in
     let tokens_are : tokens_at place (place.at + w.length) w.kind ≡ token_of before text w.kind =
     ap (λ p. tokens_at p (place.at + w.length) w.kind) r.place_is ∙ tokens-place before text (place.at + w.length) w.kind size in
     record {
@@ -142,32 +142,32 @@ reading-more bytes tokens place w r l e =
       at_is = past;
     }
 
-pub reading-start : (bytes : List ℕ) (tokens : List Token) (place : Place) → tokens ≡ [] → place ≡ place_of [] → Reading bytes tokens place
+pub reading-start : (bytes : List ℕ) (tokens : List Token) (place : Cursor) → tokens ≡ [] → place ≡ place_of [] → Reading bytes tokens place
 unfolding place_of
 reading-start bytes tokens place e f =
     subst (λ ts. Reading bytes ts place) (sym e) (subst (Reading bytes []) (sym f) (record { run = run-start bytes; place_is = refl; within = omega arith }))
 
 -- what the loop knows once a piece was taken
-pub record Took (bytes : List ℕ) (tokens : List Token) (place after : Place) (n : ℕ) : Type 0 where
+pub record Took (bytes : List ℕ) (tokens : List Token) (place after : Cursor) (n : ℕ) : Type 0 where
   pub at : after.at ≡ place.at + n
   pub some : 1 ≤ n
   pub within : place.at + n ≤ length bytes
 
-pub took : (bytes : List ℕ) (tokens : List Token) (place after : Place) (rest front : List ℕ) (w : Taken) → Reading bytes tokens place → place.at < length bytes → rest ≡ drop place.at bytes → scan place.fresh rest ≡ Ok w → front ≡ take w.length rest → after ≡ moved place front → Took bytes tokens place after w.length
+pub took : (bytes : List ℕ) (tokens : List Token) (place after : Cursor) (rest front : List ℕ) (w : Taken) → Reading bytes tokens place → place.at < length bytes → rest ≡ drop place.at bytes → scan place.fresh rest ≡ Ok w → front ≡ take w.length rest → after ≡ moved place front → Took bytes tokens place after w.length
 took bytes tokens place after rest front w r l d e f a =
     let m = reading-more bytes tokens place w r l (ap (scan place.fresh) (sym d) ∙ e) in
-    record { at = ap (λ (p : Place). p.at) (a ∙ ap (moved place) (f ∙ ap (take w.length) d)) ∙ m.at_is; some = m.some; within = m.within }
+    record { at = ap (λ (p : Cursor). p.at) (a ∙ ap (moved place) (f ∙ ap (take w.length) d)) ∙ m.at_is; some = m.some; within = m.within }
 
-pub reading-next : (bytes : List ℕ) (tokens ts : List Token) (place after : Place) (rest front : List ℕ) (w : Taken) → Reading bytes tokens place → place.at < length bytes → rest ≡ drop place.at bytes → scan place.fresh rest ≡ Ok w → front ≡ take w.length rest → after ≡ moved place front → ts ≡ tokens ++ tokens_at place after.at w.kind → Reading bytes ts after
+pub reading-next : (bytes : List ℕ) (tokens ts : List Token) (place after : Cursor) (rest front : List ℕ) (w : Taken) → Reading bytes tokens place → place.at < length bytes → rest ≡ drop place.at bytes → scan place.fresh rest ≡ Ok w → front ≡ take w.length rest → after ≡ moved place front → ts ≡ tokens ++ tokens_at place after.at w.kind → Reading bytes ts after
 reading-next bytes tokens ts place after rest front w r l d e f a t =
     let m = reading-more bytes tokens place w r l (ap (scan place.fresh) (sym d) ∙ e) in
     let k = took bytes tokens place after rest front w r l d e f a in
     subst (λ ts. Reading bytes ts after) (sym (t ∙ ap (λ n. tokens ++ tokens_at place n w.kind) k.at))
     (subst (Reading bytes (tokens ++ tokens_at place (place.at + w.length) w.kind)) (sym (a ∙ ap (moved place) (f ∙ ap (take w.length) d))) m.next)
 
-pub reading-end : (bytes : List ℕ) (tokens : List Token) (place : Place) → length bytes ≤ place.at → Reading bytes tokens place → Spells tokens bytes
+pub reading-end : (bytes : List ℕ) (tokens : List Token) (place : Cursor) → length bytes ≤ place.at → Reading bytes tokens place → Spells tokens bytes
 reading-end bytes tokens place l r = run-end bytes tokens place.at l r.run
 
-pub reading-refused : (bytes : List ℕ) (tokens : List Token) (place : Place) (rest : List ℕ) (refused : Refusal) → Reading bytes tokens place → place.at < length bytes → rest ≡ drop place.at bytes → Scans (scan place.fresh rest) (Err refused) → HasLexFault bytes (fault_at refused place.at)
+pub reading-refused : (bytes : List ℕ) (tokens : List Token) (place : Cursor) (rest : List ℕ) (refused : Refusal) → Reading bytes tokens place → place.at < length bytes → rest ≡ drop place.at bytes → Scans (scan place.fresh rest) (Err refused) → HasLexFault bytes (fault_at refused place.at)
 reading-refused bytes tokens place rest (refusal.Fault k) r l d s = reading-fault bytes tokens place k r l (ap (scan place.fresh) (sym d) ∙ s)
 reading-refused bytes tokens place rest refusal.NoMemory r l d s = tt

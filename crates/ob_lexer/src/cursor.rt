@@ -1,5 +1,5 @@
 ghost use Rattle.std.specs.Prelude.{◌≡◌, ◌+◌, ◌<◌, ◌≤◌, ◌^◌, ◌++◌, length, [], OnOk};
-ghost use Rattle.ob_lexer.specs.Places.{step, moved, tokens_at, fault_at, place_of};
+ghost use Rattle.ob_lexer.specs.Cursors.{advance, moved, tokens_at, fault_at, place_of};
 
 use crate::bytes::Class;
 use crate::taken::Refusal;
@@ -9,20 +9,20 @@ use std::alloc::AllocError;
 /// A place in a text: how many bytes stand before it, its line and column from 1, and whether only
 /// spaces and tabs stand before it on its line.
 #[derive(Clone, Copy)]
-pub struct Place {
+pub struct Cursor {
     pub at: usize,
     pub line: usize,
     pub column: usize,
     pub fresh: bool,
 }
 
-impl Place {
+impl Cursor {
     /// The first place of a text.
-    #[tactic(auto, unfolding(crate::specs::Places::place_of))]
-    pub fn start() -> Place
+    #[tactic(auto, unfolding(crate::specs::Cursors::place_of))]
+    pub fn start() -> Cursor
         ensures { result ≡ place_of [] }
     {
-        Place {
+        Cursor {
             at: 0,
             line: 1,
             column: 1,
@@ -31,25 +31,25 @@ impl Place {
     }
 
     /// The place behind one more byte.
-    #[tactic(auto, unfolding(crate::specs::Places::step))]
-    fn step(self, byte: u8) -> Place
+    #[tactic(auto, unfolding(crate::specs::Cursors::advance))]
+    fn advance(self, byte: u8) -> Cursor
         requires at { self.at < 2 ^ 21 }
         requires line { self.line ≤ self.at + 1 }
         requires column { self.column ≤ self.at + 1 }
-        ensures step { result ≡ step self byte }
+        ensures advance { result ≡ advance self byte }
         ensures at { result.at ≡ self.at + 1 }
         ensures line { result.line ≤ self.at + 2 }
         ensures column { result.column ≤ self.at + 2 }
     {
         if byte == b'\n' {
-            Place {
+            Cursor {
                 at: self.at + 1,
                 line: self.line + 1,
                 column: 1,
                 fresh: true,
             }
         } else {
-            Place {
+            Cursor {
                 at: self.at + 1,
                 line: self.line,
                 column: self.column + 1,
@@ -59,7 +59,7 @@ impl Place {
     }
 
     /// The place behind more bytes.
-    pub fn past(self, bytes: &[u8]) -> Place
+    pub fn past(self, bytes: &[u8]) -> Cursor
         requires within { self.at + length bytes.now ≤ 2 ^ 20 }
         requires line { self.line ≤ self.at + 1 }
         requires column { self.column ≤ self.at + 1 }
@@ -67,7 +67,7 @@ impl Place {
     {
         let mut place = self;
         for byte in bytes {
-            place = place.step(*byte);
+            place = place.advance(*byte);
         }
         place
     }
