@@ -120,6 +120,13 @@ there_and_back =
 abbrev pub ordering : Image
 ordering = image_of 6 48 (static_of 2 ∷ []) (Set 3 (pos 0) ∷ Static 2 (pos 1) ∷ Order Lt 4 3 2 ∷ Return 4 ∷ [])
 
+-- gives whether the last byte of one object is before the first of the next, plus how many bytes lie between them
+abbrev pub two_objects : Image
+two_objects =
+    image_of 6 48 (static_of 16 ∷ static_of 16 ∷ [])
+    (Static 2 (pos 1) ∷ Set 3 (pos 15) ∷ Shift 2 2 3 ∷ Static 3 (pos 2) ∷ Difference 4 3 2 (pos 1) ∷ Order Lt 5 2 3 ∷ Binary int_type Add 5 5 4
+    ∷ Return 5 ∷ [])
+
 -- loads the pointer to offset 4 of the second object that the first one holds, and a number from the same place; gives
 -- their sum, the pointer as its distance from the second object's first byte
 abbrev pub holding : Image
@@ -152,6 +159,12 @@ array =
 -- frees a static object
 abbrev pub freeing_static : Image
 freeing_static = image_of 6 48 (static_of 2 ∷ []) (Static 2 (pos 1) ∷ Free 9 2 ∷ Set 2 (pos 0) ∷ Return 2 ∷ [])
+
+-- frees an allocated object by a pointer to its second byte
+abbrev pub freeing_inside : Image
+freeing_inside =
+    image_of 6 48 []
+    (Set 3 (pos 5) ∷ Malloc 2 3 ∷ Set 4 (pos 1) ∷ Shift 4 2 4 ∷ Free 9 4 ∷ Set 2 (pos 0) ∷ Return 2 ∷ [])
 
 -- stores 77 in a local object, loads it, wipes it, loads it again and gives the sum; then stores past its end
 abbrev pub with_local : Image

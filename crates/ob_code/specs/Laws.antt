@@ -105,6 +105,10 @@ PointerComesBack = Ends (small_run examples.there_and_back) (Ended (pos 1)) 7
 abbrev pub NullIsFirst : Type 0
 NullIsFirst = Ends (small_run examples.ordering) (Ended (pos 1)) 4
 
+-- two objects are in order of their numbers, and no elements lie between them
+abbrev pub ObjectsAreInOrder : Type 0
+ObjectsAreInOrder = Ends (small_run examples.two_objects) (Ended (pos 1)) 8
+
 abbrev pub StaticsHoldPointers : Type 0
 StaticsHoldPointers = Ends (small_run examples.holding) (Ended (pos 4)) 8
 
@@ -123,6 +127,9 @@ ArrayHasItsProduct = Gives (small_run examples.array) (Ended (pos 0)) 7 [] (stra
 
 abbrev pub OtherFreesAreTold : Type 0
 OtherFreesAreTold = Gives (small_run examples.freeing_static) (Ended (pos 0)) 4 [] (stray_event 9 act.Free 1 (pos 0) 0 ∷ []) 0
+
+abbrev pub InnerFreeIsTold : Type 0
+InnerFreeIsTold = Gives (small_run examples.freeing_inside) (Ended (pos 0)) 7 [] (stray_event 9 act.Free 1 (pos 1) 0 ∷ []) 0
 
 -- the object's number is that of its ordinal
 abbrev pub LocalIsStoredAndWiped : Type 0

@@ -1,4 +1,4 @@
-ghost use Rattle.ob_code.specs.Laws.{HelloIsWritten, ReturnPlaceIsCodeLength, EndlessIsSpent, TicksTakeSteps, JumpsGoByZero, ArgumentsAndResultArrive, CallReturnsAfterItself, StackHoldsTwoHalves, CharIsSigned, DivisionByZeroEnds, DisplacementsAreExact, InputEnds, InputIsBytes, FarPointerHasSlot, PointerComesBack, NullIsFirst, StaticsHoldPointers, HeapStartsAtItsPlace, FreedPlaceIsReused, ArrayHasItsProduct, OtherFreesAreTold, LocalIsStoredAndWiped, StoreVanishesOrIsKept, LeastRecentlyUsedLeaves, VanishesInBothModes, PointerIsStoredWhole, FreedSlotIsReused, DeadGranulesAreForgotten, FreedAccessIsStray, FreedBlockStays, FreedPointerMoves, FreedGranulesLeave, VariablesShow, EndedRunShowsStatics, ValuesHaveOneWord, RunsAreBounded, SpentRunsAreExact, RunsEndSo, NamesAreUnread};
+ghost use Rattle.ob_code.specs.Laws.{HelloIsWritten, ReturnPlaceIsCodeLength, EndlessIsSpent, TicksTakeSteps, JumpsGoByZero, ArgumentsAndResultArrive, CallReturnsAfterItself, StackHoldsTwoHalves, CharIsSigned, DivisionByZeroEnds, DisplacementsAreExact, InputEnds, InputIsBytes, FarPointerHasSlot, PointerComesBack, NullIsFirst, ObjectsAreInOrder, StaticsHoldPointers, HeapStartsAtItsPlace, FreedPlaceIsReused, ArrayHasItsProduct, OtherFreesAreTold, InnerFreeIsTold, LocalIsStoredAndWiped, StoreVanishesOrIsKept, LeastRecentlyUsedLeaves, VanishesInBothModes, PointerIsStoredWhole, FreedSlotIsReused, DeadGranulesAreForgotten, FreedAccessIsStray, FreedBlockStays, FreedPointerMoves, FreedGranulesLeave, VariablesShow, EndedRunShowsStatics, ValuesHaveOneWord, RunsAreBounded, SpentRunsAreExact, RunsEndSo, NamesAreUnread};
 
 /// Runs of the machine's definition on small images: steps, jumps, calls and returns.
 pub fn law_control_runs()
@@ -26,6 +26,7 @@ pub fn law_pointer_runs()
     ensures slots { FarPointerHasSlot }
     ensures back { PointerComesBack }
     ensures order { NullIsFirst }
+    ensures objects { ObjectsAreInOrder }
     ensures statics { StaticsHoldPointers }
 {}
 
@@ -35,6 +36,7 @@ pub fn law_object_runs()
     ensures reuse { FreedPlaceIsReused }
     ensures array { ArrayHasItsProduct }
     ensures frees { OtherFreesAreTold }
+    ensures inner { InnerFreeIsTold }
     ensures locals { LocalIsStoredAndWiped }
     ensures strays { StoreVanishesOrIsKept }
 {}

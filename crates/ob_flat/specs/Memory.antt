@@ -1,6 +1,7 @@
 -- The memory of the flat machine: one list of bytes for three ranges of addresses, and for each granule of eight bytes a mark
 -- that says whether it holds a pointer. Each range is kept in whole granules.
 use Rattle.std.specs.Prelude.{◌≡◌, ℕ, ◌+◌, ◌-◌, ◌*◌, ◌/◌, ◌≤◌, ◌⊎◌, Bool, false, List, ◌++◌, length, take, drop, replicate, slice_index_or, slice_set, nat_lt, if◌then◌else◌}
+use Rattle.ob_model.specs.Limits.{statics_start, stack_start, heap_start, most_static_bytes, stack_bytes, most_heap_bytes}
 use Rattle.ob_words.specs.Fields as fields
 
 pub record Memory : Type 0 where
@@ -21,8 +22,8 @@ capacity statics stack heap = whole_granules statics + whole_granules stack + wh
 -- 2 ^ 25 on
 abbrev pub index_of : ℕ → ℕ → ℕ → ℕ
 index_of statics stack address =
-    if nat_lt address 16777216 then address - 4096
-    else (if nat_lt address 33554432 then whole_granules statics + (address - 16777216) else whole_granules statics + whole_granules stack + (address - 33554432))
+    if nat_lt address stack_start then address - statics_start
+    else (if nat_lt address heap_start then whole_granules statics + (address - stack_start) else whole_granules statics + whole_granules stack + (address - heap_start))
 
 abbrev pub index : Memory → ℕ → ℕ
 index m address = index_of m.statics m.stack address
@@ -35,13 +36,13 @@ pub record IsWithin (start count address n : ℕ) : Type 0 where
 -- n bytes from an address on lie in one of the three ranges
 abbrev pub IsIn : Memory → ℕ → ℕ → Type 0
 IsIn m address n =
-    IsWithin 4096 m.statics address n ⊎ (IsWithin 16777216 m.stack address n ⊎ IsWithin 33554432 m.heap address n)
+    IsWithin statics_start m.statics address n ⊎ (IsWithin stack_start m.stack address n ⊎ IsWithin heap_start m.heap address n)
 
 -- the ranges do not meet, and the lists are as long as they need
 pub record IsLaidOut (m : Memory) : Type 0 where
-  pub statics : m.statics ≤ 4194304
-  pub stack : m.stack ≤ 1048576
-  pub heap : m.heap ≤ 67108864
+  pub statics : m.statics ≤ most_static_bytes
+  pub stack : m.stack ≤ stack_bytes
+  pub heap : m.heap ≤ most_heap_bytes
   pub bytes : length m.bytes ≡ capacity m.statics m.stack m.heap
   pub marks : length m.marks ≡ capacity m.statics m.stack m.heap / 8
 

@@ -1,4 +1,5 @@
 ghost use Rattle.std.specs.Prelude.{◌≡◌, ◌+◌, ◌*◌, ◌/◌, ◌%◌, ◌≤◌, ◌<◌, ◌^◌, IfOk};
+ghost use Rattle.ob_model.specs.Limits.{most_static_bytes, stack_bytes, most_heap_bytes, statics_start};
 ghost use Rattle.ob_words.specs.Fields.{IsFieldSize};
 ghost use Rattle.ob_flat.specs.Memory.{whole_granules, index_of, capacity, field, with_field, has_mark, with_mark, with_zeros, zeroed, IsIn};
 
@@ -38,9 +39,9 @@ impl Flat {
     /// Three ranges of so many bytes, at most 4,194,304 of statics, 1,048,576 of stack and 67,108,864 of
     /// heap. Every byte is 0 and no granule holds a pointer.
     pub fn new(alloc: Global, statics: u64, stack: u64, heap: u64) -> Result<Flat, NoMemory>
-        requires statics { statics ≤ 4194304 }
-        requires stack { stack ≤ 1048576 }
-        requires heap { heap ≤ 67108864 }
+        requires statics { statics ≤ most_static_bytes }
+        requires stack { stack ≤ stack_bytes }
+        requires heap { heap ≤ most_heap_bytes }
         ensures { IfOk result (λ f. f ≡ zeroed statics stack heap) }
     {
         let bytes = whole_granules(statics) + whole_granules(stack) + whole_granules(heap);
@@ -125,7 +126,7 @@ fn whole_granules(bytes: u64) -> usize
 fn index(statics: u64, stack: u64, address: u64) -> usize
     requires statics { statics < 2 ^ 32 }
     requires stack { stack < 2 ^ 32 }
-    requires start { 4096 ≤ address }
+    requires start { statics_start ≤ address }
     requires address { address < 2 ^ 32 }
     ensures { result ≡ index_of statics stack address }
 {

@@ -1,8 +1,13 @@
 //! What the meaning of a program and the machine that runs it share: values, cells of memory, stray
-//! accesses, out-of-bounds descriptors, settings and endings. Its definitions say which accesses stray and
-//! what becomes of them, where the heap places an allocation, which slot and word a pointer out of bounds
-//! gets, what a granule of eight bytes gives and takes, how the bounded list of stray cells moves, and when
-//! two runs agree. Stands on ob_words, and takes no memory.
+//! accesses, freed objects, out-of-bounds descriptors, settings, endings, and what shows of a run. Its
+//! definitions say which accesses stray and what becomes of them, which pointers free an object and whether
+//! it stays known, where the heap places an allocation, which slot and word a pointer out of bounds gets,
+//! how pointers are moved and compared, what a granule of eight bytes gives and takes, how the bounded list
+//! of stray cells moves, and when two runs agree. Stands on ob_words, and takes no memory.
+//!
+//! All of specs/ but Laws is to be believed. Its laws that other crates' proofs cite are those of the
+//! contracts in src/laws.rt, and the lemmas of proofs/Astray (which accesses stray) and proofs/ReadBack
+//! (written bytes are read back).
 #![tactic(auto)]
 
 pub use accesses::{granule_of, inside, size_of_kind};

@@ -26,3 +26,7 @@ returns-clause-locals c = (refl, refl)
 pub returns-clause-strays : goal.returns-clause-strays
 unfolding convert residue from_bytes low_bytes
 returns-clause-strays c = ((refl, refl), (refl, refl))
+
+pub returns-clause-inner : goal.returns-clause-inner
+unfolding convert residue from_bytes low_bytes
+returns-clause-inner c = (refl, refl)

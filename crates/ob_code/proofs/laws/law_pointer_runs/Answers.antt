@@ -18,3 +18,7 @@ returns-clause-order c = (refl, refl)
 pub returns-clause-statics : goal.returns-clause-statics
 unfolding convert residue from_bytes low_bytes
 returns-clause-statics c = (refl, refl)
+
+pub returns-clause-objects : goal.returns-clause-objects
+unfolding convert residue from_bytes low_bytes
+returns-clause-objects c = (refl, refl)
