@@ -29,5 +29,4 @@ mod numbers;
 mod parts;
 mod reading;
 mod rows;
-mod words;
 mod writing;

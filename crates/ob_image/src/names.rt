@@ -1,12 +1,25 @@
 ghost use Rattle.std.specs.Prelude.{◌≡◌, ◌<◌, ◌≤◌, length};
 ghost use Rattle.std.specs.List.{prefix_len};
-ghost use Rattle.ob_base.specs.Names.{is_name_byte};
+ghost use Rattle.ob_base.specs.Names.{is_letter, is_name_byte};
 ghost use Rattle.ob_image.specs.Reading.{Gives, leading, name};
 
 use crate::faults::Stop;
-use crate::words::{is_letter, is_name, is_name_byte};
-use ob_base::Text;
+use ob_base::{Text, is_name};
 use std::alloc::Global;
+
+#[tactic(auto, unfolding(ob_base::specs::Names::is_letter))]
+fn is_letter(byte: u8) -> bool
+    ensures { result ≡ is_letter byte }
+{
+    byte.is_ascii_alphabetic() || byte == b'_'
+}
+
+#[tactic(auto, unfolding(ob_base::specs::Names::is_name_byte, ob_base::specs::Names::is_digit))]
+fn is_name_byte(byte: u8) -> bool
+    ensures { result ≡ is_name_byte byte }
+{
+    is_letter(byte) || byte.is_ascii_digit()
+}
 
 /// How many bytes at the begin are letters, digits or `_`.
 fn name_run(text: &[u8]) -> usize
