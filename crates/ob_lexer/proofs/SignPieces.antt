@@ -1,8 +1,8 @@
 -- Punctuators.
-use Rattle.std.proofs.Common.{◌≡◌, ℕ, ◌≤◌, inl, inr, List, [], ◌∷◌, ◌++◌, length, take, drop, Bool, true, false, cond, eqb, Option, None, Some, Err, refl, arith, ◌∙◌, ap, sym, lit≤}
-use Rattle.std.proofs.lemmas.Bool.{and_parts, false≢true}
+use Rattle.std.proofs.Common.{◌≡◌, ℕ, ◌≤◌, inl, inr, List, [], ◌∷◌, ◌++◌, length, take, drop, Bool, true, false, not, cond, eqb, leb, ◌&&◌, ◌||◌, Option, None, Some, Err, refl, arith, ◌∙◌, ap, sym}
+use Rattle.std.proofs.lemmas.Bool.{and_parts, leb-true, false≢true}
 use Rattle.std.proofs.lemmas.List.{take-append-drop}
-use Rattle.std.specs.List.{find}
+use Rattle.std.specs.List.{list_all}
 use Rattle.std.specs.Str.{bytes_eq}
 use Rattle.ob_tree.specs.Bytes.{begins_with, is_digit}
 use Rattle.ob_tree.specs.Signs.{sign_text, begins_comment, IsSign}
@@ -15,7 +15,7 @@ use Rattle.ob_tree.specs.declared.faults.LexKind.TheVariants as fault
 use Rattle.ob_lexer.specs.declared.scanner.Sort.{Sort}
 use Rattle.ob_lexer.specs.Scan.{sort_of, signs, begins_sign, sign_at, is_fraction, sign_piece, scan_sign}
 use Rattle.ob_lexer.proofs.Prefixes.{take-here, same-here, length-here, bytes_eq-same, bytes_eq-refl, find-true}
-use Rattle.ob_lexer.proofs.Tables.{Among, falls, find-among, find-greatest}
+use Rattle.ob_lexer.proofs.Tables.{Among, falls, list_all-among, find-among, find-greatest}
 use Rattle.ob_lexer.proofs.Taking.{Best, IsRight, sorted, first-as, no-unclosed, no-wide}
 
 signs-fall : falls (λ s. length (sign_text s)) signs ≡ true
@@ -68,155 +68,54 @@ all-signs sign.CaretAssign = inr (inr (inr (inr (inr (inr (inr (inr (inr (inr (i
 all-signs sign.BarAssign = inr (inr (inr (inr (inr (inr (inr (inr (inr (inr (inr (inr (inr (inr (inr (inr (inr (inr (inr (inr (inl refl))))))))))))))))))))
 all-signs sign.Comma = inr (inr (inr (inr (inr (inr (inr (inr (inr (inr (inr (inr (inr (inr (inr (inr (inr (inr (inr (inr (inr (inr (inr (inr (inr (inr (inr (inr (inr (inr (inr (inr (inr (inr (inr (inr (inr (inr (inr (inr (inr (inr (inr (inr (inl refl))))))))))))))))))))))))))))))))))))))))))))
 
-sign_of : List ℕ → Option Sign
-sign_of text = find (λ s. bytes_eq (sign_text s) text) signs
+-- what the table of all punctuators shows of each by computation
+each : (p : Sign → Bool) → list_all p signs ≡ true → (s : Sign) → p s ≡ true
+each p h s = list_all-among p s signs h (all-signs s)
 
-sign_of-text : (s : Sign) → sign_of (sign_text s) ≡ Some s
-unfolding sign_of
-sign_of-text sign.OpenBracket = refl
-sign_of-text sign.CloseBracket = refl
-sign_of-text sign.OpenParen = refl
-sign_of-text sign.CloseParen = refl
-sign_of-text sign.OpenBrace = refl
-sign_of-text sign.CloseBrace = refl
-sign_of-text sign.Dot = refl
-sign_of-text sign.Arrow = refl
-sign_of-text sign.PlusPlus = refl
-sign_of-text sign.MinusMinus = refl
-sign_of-text sign.Amp = refl
-sign_of-text sign.Star = refl
-sign_of-text sign.Plus = refl
-sign_of-text sign.Minus = refl
-sign_of-text sign.Tilde = refl
-sign_of-text sign.Not = refl
-sign_of-text sign.Slash = refl
-sign_of-text sign.Percent = refl
-sign_of-text sign.Shl = refl
-sign_of-text sign.Shr = refl
-sign_of-text sign.Lt = refl
-sign_of-text sign.Gt = refl
-sign_of-text sign.Le = refl
-sign_of-text sign.Ge = refl
-sign_of-text sign.EqEq = refl
-sign_of-text sign.NotEq = refl
-sign_of-text sign.Caret = refl
-sign_of-text sign.Bar = refl
-sign_of-text sign.AndAnd = refl
-sign_of-text sign.OrOr = refl
-sign_of-text sign.Question = refl
-sign_of-text sign.Colon = refl
-sign_of-text sign.Semi = refl
-sign_of-text sign.Assign = refl
-sign_of-text sign.StarAssign = refl
-sign_of-text sign.SlashAssign = refl
-sign_of-text sign.PercentAssign = refl
-sign_of-text sign.PlusAssign = refl
-sign_of-text sign.MinusAssign = refl
-sign_of-text sign.ShlAssign = refl
-sign_of-text sign.ShrAssign = refl
-sign_of-text sign.AmpAssign = refl
-sign_of-text sign.CaretAssign = refl
-sign_of-text sign.BarAssign = refl
-sign_of-text sign.Comma = refl
+-- no two of these texts are the same
+abbrev distinct : List Sign → Bool
+distinct [] = true
+distinct (s ∷ ss) = list_all (λ r. not (bytes_eq (sign_text s) (sign_text r))) ss && distinct ss
+
+signs-distinct : distinct signs ≡ true
+signs-distinct = refl
+
+apart : (s r : Sign) (ss : List Sign) → list_all (λ r. not (bytes_eq (sign_text s) (sign_text r))) ss ≡ true → Among r ss → sign_text s ≡ sign_text r → ⊥
+apart s r ss h m e =
+    let n : not (bytes_eq (sign_text s) (sign_text r)) ≡ true = list_all-among (λ r. not (bytes_eq (sign_text s) (sign_text r))) r ss h m in
+    let z : not true ≡ true = ap not (sym (bytes_eq-refl (sign_text s) (sign_text r) e)) ∙ n in cc
+
+same-among : (s r : Sign) (ss : List Sign) → distinct ss ≡ true → Among s ss → Among r ss → sign_text s ≡ sign_text r → s ≡ r
+same-among s r [] d m n e = absurd m
+same-among s r (x ∷ ss) d (inl i) (inl j) e = i ∙ sym j
+same-among s r (x ∷ ss) d (inl i) (inr n) e =
+    absurd (apart x r ss (and_parts (list_all (λ r. not (bytes_eq (sign_text x) (sign_text r))) ss) (distinct ss) d).0 n (ap sign_text (sym i) ∙ e))
+same-among s r (x ∷ ss) d (inr m) (inl j) e =
+    absurd (apart x s ss (and_parts (list_all (λ r. not (bytes_eq (sign_text x) (sign_text r))) ss) (distinct ss) d).0 m (ap sign_text (sym j) ∙ sym e))
+same-among s r (x ∷ ss) d (inr m) (inr n) e =
+    same-among s r ss (and_parts (list_all (λ r. not (bytes_eq (sign_text x) (sign_text r))) ss) (distinct ss) d).1 m n e
 
 -- two punctuators of one text are the same
 same-sign : (s r : Sign) → sign_text s ≡ sign_text r → s ≡ r
-same-sign s r e = let z : Some s ≡ Some r = sym (sign_of-text s) ∙ ap sign_of e ∙ sign_of-text r in cc
-
--- only `.` begins with `.`
-dot-first : (s : Sign) (a : List ℕ) → begins_with (λ c. eqb c 46) (sign_text s ++ a) ≡ true → s ≡ sign.Dot
-dot-first sign.OpenBracket a h = absurd (false≢true h)
-dot-first sign.CloseBracket a h = absurd (false≢true h)
-dot-first sign.OpenParen a h = absurd (false≢true h)
-dot-first sign.CloseParen a h = absurd (false≢true h)
-dot-first sign.OpenBrace a h = absurd (false≢true h)
-dot-first sign.CloseBrace a h = absurd (false≢true h)
-dot-first sign.Dot a h = refl
-dot-first sign.Arrow a h = absurd (false≢true h)
-dot-first sign.PlusPlus a h = absurd (false≢true h)
-dot-first sign.MinusMinus a h = absurd (false≢true h)
-dot-first sign.Amp a h = absurd (false≢true h)
-dot-first sign.Star a h = absurd (false≢true h)
-dot-first sign.Plus a h = absurd (false≢true h)
-dot-first sign.Minus a h = absurd (false≢true h)
-dot-first sign.Tilde a h = absurd (false≢true h)
-dot-first sign.Not a h = absurd (false≢true h)
-dot-first sign.Slash a h = absurd (false≢true h)
-dot-first sign.Percent a h = absurd (false≢true h)
-dot-first sign.Shl a h = absurd (false≢true h)
-dot-first sign.Shr a h = absurd (false≢true h)
-dot-first sign.Lt a h = absurd (false≢true h)
-dot-first sign.Gt a h = absurd (false≢true h)
-dot-first sign.Le a h = absurd (false≢true h)
-dot-first sign.Ge a h = absurd (false≢true h)
-dot-first sign.EqEq a h = absurd (false≢true h)
-dot-first sign.NotEq a h = absurd (false≢true h)
-dot-first sign.Caret a h = absurd (false≢true h)
-dot-first sign.Bar a h = absurd (false≢true h)
-dot-first sign.AndAnd a h = absurd (false≢true h)
-dot-first sign.OrOr a h = absurd (false≢true h)
-dot-first sign.Question a h = absurd (false≢true h)
-dot-first sign.Colon a h = absurd (false≢true h)
-dot-first sign.Semi a h = absurd (false≢true h)
-dot-first sign.Assign a h = absurd (false≢true h)
-dot-first sign.StarAssign a h = absurd (false≢true h)
-dot-first sign.SlashAssign a h = absurd (false≢true h)
-dot-first sign.PercentAssign a h = absurd (false≢true h)
-dot-first sign.PlusAssign a h = absurd (false≢true h)
-dot-first sign.MinusAssign a h = absurd (false≢true h)
-dot-first sign.ShlAssign a h = absurd (false≢true h)
-dot-first sign.ShrAssign a h = absurd (false≢true h)
-dot-first sign.AmpAssign a h = absurd (false≢true h)
-dot-first sign.CaretAssign a h = absurd (false≢true h)
-dot-first sign.BarAssign a h = absurd (false≢true h)
-dot-first sign.Comma a h = absurd (false≢true h)
+same-sign s r e = same-among s r signs signs-distinct (all-signs s) (all-signs r) e
 
 pub sign-some : (s : Sign) → 1 ≤ length (sign_text s)
-sign-some sign.OpenBracket = lit≤ tt
-sign-some sign.CloseBracket = lit≤ tt
-sign-some sign.OpenParen = lit≤ tt
-sign-some sign.CloseParen = lit≤ tt
-sign-some sign.OpenBrace = lit≤ tt
-sign-some sign.CloseBrace = lit≤ tt
-sign-some sign.Dot = lit≤ tt
-sign-some sign.Arrow = lit≤ tt
-sign-some sign.PlusPlus = lit≤ tt
-sign-some sign.MinusMinus = lit≤ tt
-sign-some sign.Amp = lit≤ tt
-sign-some sign.Star = lit≤ tt
-sign-some sign.Plus = lit≤ tt
-sign-some sign.Minus = lit≤ tt
-sign-some sign.Tilde = lit≤ tt
-sign-some sign.Not = lit≤ tt
-sign-some sign.Slash = lit≤ tt
-sign-some sign.Percent = lit≤ tt
-sign-some sign.Shl = lit≤ tt
-sign-some sign.Shr = lit≤ tt
-sign-some sign.Lt = lit≤ tt
-sign-some sign.Gt = lit≤ tt
-sign-some sign.Le = lit≤ tt
-sign-some sign.Ge = lit≤ tt
-sign-some sign.EqEq = lit≤ tt
-sign-some sign.NotEq = lit≤ tt
-sign-some sign.Caret = lit≤ tt
-sign-some sign.Bar = lit≤ tt
-sign-some sign.AndAnd = lit≤ tt
-sign-some sign.OrOr = lit≤ tt
-sign-some sign.Question = lit≤ tt
-sign-some sign.Colon = lit≤ tt
-sign-some sign.Semi = lit≤ tt
-sign-some sign.Assign = lit≤ tt
-sign-some sign.StarAssign = lit≤ tt
-sign-some sign.SlashAssign = lit≤ tt
-sign-some sign.PercentAssign = lit≤ tt
-sign-some sign.PlusAssign = lit≤ tt
-sign-some sign.MinusAssign = lit≤ tt
-sign-some sign.ShlAssign = lit≤ tt
-sign-some sign.ShrAssign = lit≤ tt
-sign-some sign.AmpAssign = lit≤ tt
-sign-some sign.CaretAssign = lit≤ tt
-sign-some sign.BarAssign = lit≤ tt
-sign-some sign.Comma = lit≤ tt
+sign-some s = leb-true 1 (length (sign_text s)) (each (λ s. leb 1 (length (sign_text s))) refl s)
+
+-- only `.` begins with `.`
+dot-alone : (s : Sign) → (not (begins_with (λ c. eqb c 46) (sign_text s)) || bytes_eq (sign_text s) (sign_text sign.Dot)) ≡ true
+dot-alone s = each (λ s. not (begins_with (λ c. eqb c 46) (sign_text s)) || bytes_eq (sign_text s) (sign_text sign.Dot)) refl s
+
+begins-front : (t a : List ℕ) → 1 ≤ length t → begins_with (λ c. eqb c 46) (t ++ a) ≡ true → begins_with (λ c. eqb c 46) t ≡ true
+begins-front [] a l h = absurd (omega arith)
+begins-front (c ∷ t) a l h = h
+
+dot-first : (s : Sign) (a : List ℕ) → begins_with (λ c. eqb c 46) (sign_text s ++ a) ≡ true → s ≡ sign.Dot
+dot-first s a h =
+    let b : begins_with (λ c. eqb c 46) (sign_text s) ≡ true = begins-front (sign_text s) a (sign-some s) h in
+    let d : (not true || bytes_eq (sign_text s) (sign_text sign.Dot)) ≡ true =
+    ap (λ x. not x || bytes_eq (sign_text s) (sign_text sign.Dot)) (sym b) ∙ dot-alone s in
+    same-sign s sign.Dot (bytes_eq-same (sign_text s) (sign_text sign.Dot) d)
 
 begins-here : (s : Sign) (a rest : List ℕ) → sign_text s ++ a ≡ rest → begins_sign rest s ≡ true
 begins-here s a rest e = bytes_eq-refl (sign_text s) (take (length (sign_text s)) rest) (sym (take-here (sign_text s) a rest e))
