@@ -3,7 +3,8 @@ use Rattle.std.proofs.Common.{◌≡◌, ◌≢◌, ◌⊎◌, ◌^◌, ◌<◌,
 use Rattle.ob_flat.specs.Laws.{FieldIsRead, LayoutIsKept, OtherFieldsAreKept, OthersAreKeptByZeros}
 use Rattle.ob_code.specs.declared.image.Image.{Image}
 use Rattle.ob_code.specs.declared.instructions.Instr.{Instr}
-use Rattle.ob_code.specs.FirstFault.{IsRunnable}
+use Rattle.ob_code.specs.Rules.{IsVerified}
+use Rattle.ob_space.specs.Unbuilt.{IsBuilt}
 use Rattle.ob_tree.specs.declared.tokens.TokenKind.{TokenKind}
 use Rattle.ob_tree.specs.Programs.{ProgramTree}
 use Rattle.ob_tree.specs.ProgramSpelling.{spell_program}
@@ -16,7 +17,7 @@ use Rattle.ob_program.specs.FirstRun.{Prints}
 use Rattle.ob_program.proofs.FirstForms.{IsRead, is_read}
 use Rattle.ob_program.proofs.FirstReadings.{at_same, read_first_form}
 use Rattle.ob_program.proofs.FirstRuns.{prints}
-use Rattle.ob_program.proofs.FirstVerified.{first_length, prints_length, runnable}
+use Rattle.ob_program.proofs.FirstVerified.{first_length, prints_length, verified, built}
 
 -- a program of the first form that has few tokens prints little
 pub few_prints : (p : ProgramTree) (f : FirstForm) → HasFirstForm p f → length (spell_program p) ≤ 2 ^ 20 → length f.prints < 2 ^ 20
@@ -54,10 +55,10 @@ module _ (p : ProgramTree) (kinds : List TokenKind) (code : List Instr) (image :
   image_is : image ≡ only_main (first_code what.form)
   image_is = is ∙ ap only_main what.code_is
 
-  pub can_run : IsRunnable image
-  can_run = subst IsRunnable (sym image_is) (runnable what.form few_kinds)
+  pub can_run : IsVerified image
+  can_run = subst IsVerified (sym image_is) (verified what.form few_kinds)
 
-  pub has_form : FieldIsRead → OtherFieldsAreKept → OthersAreKeptByZeros → LayoutIsKept → (f : FirstForm) × HasFirstForm p f × (image ≡ only_main (first_code f)) × Prints image f
+  pub has_form : FieldIsRead → OtherFieldsAreKept → OthersAreKeptByZeros → LayoutIsKept → (f : FirstForm) × HasFirstForm p f × (image ≡ only_main (first_code f)) × Prints image f × IsBuilt image
   has_form fields others zeros layout =
       let run = prints what.form fields others zeros layout what.sums (omega (arith, first_length what.form, few_kinds)) in
-      (what.form, record { sums = what.sums; spelled = sym spelled ∙ what.spelled }, image_is, subst (λ i. Prints i what.form) (sym image_is) run)
+      (what.form, record { sums = what.sums; spelled = sym spelled ∙ what.spelled }, image_is, subst (λ i. Prints i what.form) (sym image_is) run, subst IsBuilt (sym image_is) (built what.form))

@@ -8,30 +8,31 @@ use Rattle.ob_code.specs.declared.faults.Part.TheVariants as part
 use Rattle.ob_code.specs.declared.image.Image.{Image}
 use Rattle.ob_code.specs.declared.instructions.Instr.{Instr}
 use Rattle.ob_code.specs.declared.instructions.Instr.TheVariants.{Tick, PutChar, Return}
-use Rattle.ob_code.specs.FirstFault.{IsFaultAt, IsFaultIn, IsFirstFault, IsRunnable, too_many, broken}
-use Rattle.ob_code.specs.Rules.{AreOperandsSound, IsCodeSound, IsFrameSound, IsFunctionSound, IsInstructionSound, IsLast}
-use Rattle.ob_code.specs.Unbuilt.{IsFunctionBuilt, IsInstructionBuilt}
+use Rattle.ob_code.specs.FirstFault.{IsFaultAt, IsFaultIn, IsFirstFault, too_many, broken}
+use Rattle.ob_code.specs.Rules.{AreOperandsSound, IsCodeSound, IsFrameSound, IsFunctionSound, IsInstructionSound, IsLast, IsVerified}
+use Rattle.ob_space.specs.Unbuilt.{IsBuilt, IsFunctionBuilt, IsInstructionBuilt}
 use Rattle.ob_tree.specs.declared.tokens.TokenKind.TheVariants as kind
 use Rattle.ob_tree.specs.declared.tokens.Sign.TheVariants as signs
 use Rattle.ob_program.specs.FirstCode.{addend_code, body_code, first_code, main_row, only_main, print_code, return_code, sum_code}
 use Rattle.ob_program.specs.FirstForm.{FirstForm, addend_kinds, body_kinds, first_kinds, print_kinds, return_kinds, sum_kinds}
 
--- ---- a runnable image has no fault
+-- ---- a verified image has no fault
 
 no_fault_at : (limit count : ℕ) (Rule : ℕ → Type 0) (at : ℕ) → count ≤ limit → ((i : ℕ) → i < count → Rule i) → IsFaultAt limit count Rule at → ⊥
 no_fault_at limit count Rule at most each (too_many more is) = omega arith
 no_fault_at limit count Rule at most each (broken fits row unsound before) = unsound (each at row)
 
-no_fault_in : (p : Part) (image : Image) (at : ℕ) → IsRunnable image → IsFaultIn p image at → ⊥
+no_fault_in : (p : Part) (image : Image) (at : ℕ) → IsVerified image → IsFaultIn p image at → ⊥
 no_fault_in part.Bytes image at r f = f
-no_fault_in part.Static image at r f = no_fault_at _ _ _ at r.rules.statics.most (λ i h. (r.rules.statics.each i h, r.built.statics i h)) f
-no_fault_in part.Pointer image at r f = no_fault_at _ _ _ at r.rules.pointers.most r.rules.pointers.each f.1
-no_fault_in part.Function image at r (_, _, inl none) = omega (arith, none.0, r.rules.functions.some)
-no_fault_in part.Function image at r (_, _, inr f) = no_fault_at _ _ _ at r.rules.functions.rows.most (λ i h. (r.rules.functions.rows.each i h, r.built.functions i h)) f
-no_fault_in part.Main image at r f = f.3.1 r.rules.main
-no_fault_in part.Code image at r f = no_fault_at _ _ _ at r.rules.code.most (λ i h. (r.rules.code.each i h, r.built.code i h)) f.4
+no_fault_in part.Static image at r f = no_fault_at _ _ _ at r.statics.most r.statics.each f
+no_fault_in part.Pointer image at r f = no_fault_at _ _ _ at r.pointers.most r.pointers.each f.1
+no_fault_in part.Function image at r (_, _, inl none) = omega (arith, none.0, r.functions.some)
+no_fault_in part.Function image at r (_, _, inr f) = no_fault_at _ _ _ at r.functions.rows.most r.functions.rows.each f
+no_fault_in part.Main image at r f = f.3.1 r.main
+no_fault_in part.Code image at r f = no_fault_at _ _ _ at r.code.most r.code.each f.4
+no_fault_in part.Names image at r f = no_fault_at _ _ _ at r.names.most r.names.each f.5
 
-pub no_fault : (image : Image) (bad : BadImage) → IsRunnable image → IsFirstFault image bad → ⊥
+pub no_fault : (image : Image) (bad : BadImage) → IsVerified image → IsFirstFault image bad → ⊥
 no_fault image bad r f = no_fault_in bad.part image bad.at r f
 
 -- ---- each instruction is sound, and the last one goes nowhere on
@@ -157,18 +158,16 @@ instruction_sound f i h = record { operands = (fits_at f i h).0; last = is_last 
 code_sound : (f : FirstForm) (i : ℕ) → i < length (first_code f) → IsCodeSound (only_main (first_code f)) i
 code_sound f i h g of = let zero_is : 0 ≡ g = omega (arith, of.is_function) in subst (λ k. IsInstructionSound (only_main (first_code f)) k i) zero_is (instruction_sound f i h)
 
-pub runnable : (f : FirstForm) → length (first_kinds f) ≤ 2 ^ 20 → IsRunnable (only_main (first_code f))
-runnable f few = record {
-  rules = record {
-    statics = record { most = lit≤ tt; each = λ i h. absurd (omega arith) };
-    pointers = record { most = lit≤ tt; each = λ i h. absurd (omega arith) };
-    functions = record { some = lit< tt; rows = record { most = lit≤ tt; each = function_sound f } };
-    main = record { exists = lit< tt; no_params = refl };
-    code = record { most = omega (arith, first_length f); each = code_sound f };
-  };
-  built = record {
-    statics = λ i h. absurd (omega arith);
-    functions = function_built (first_code f);
-    code = λ i h. (fits_at f i h).1;
-  };
+pub verified : (f : FirstForm) → length (first_kinds f) ≤ 2 ^ 20 → IsVerified (only_main (first_code f))
+verified f few = record {
+  statics = record { most = lit≤ tt; each = λ i h. absurd (omega arith) };
+  pointers = record { most = lit≤ tt; each = λ i h. absurd (omega arith) };
+  functions = record { some = lit< tt; rows = record { most = lit≤ tt; each = function_sound f } };
+  main = record { exists = lit< tt; no_params = refl };
+  code = record { most = omega (arith, first_length f); each = code_sound f };
+  names = record { most = lit≤ tt; each = λ i h. absurd (omega arith) };
 }
+
+-- the machine runs all of it
+pub built : (f : FirstForm) → IsBuilt (only_main (first_code f))
+built f = record { statics = refl; functions = function_built (first_code f); code = λ i h. (fits_at f i h).1 }

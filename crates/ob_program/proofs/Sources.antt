@@ -5,7 +5,7 @@ use Rattle.ob_tree.specs.declared.faults.LexKind.{LexKind}
 use Rattle.ob_tree.specs.Programs.{ProgramTree}
 use Rattle.ob_tree.specs.ProgramFronts.{IsTreeOf}
 use Rattle.ob_tree.specs.ProgramSpelling.{spell_program}
-use Rattle.ob_tree.proofs.Readings.{length-kinds}
+use Rattle.ob_tree.proofs.RightReadings.{length-kinds}
 use Rattle.ob_lexer.specs.Texts.{StopsAt, text_of}
 use Rattle.ob_program.specs.declared.answer.Answer.{Answer}
 use Rattle.ob_program.specs.declared.answer.Answer.TheVariants.{Ended, WriteFault, NoMemory}

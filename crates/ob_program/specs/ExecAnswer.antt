@@ -11,14 +11,16 @@ use Rattle.ob_model.specs.Endings as models
 use Rattle.ob_code.specs.declared.faults.Part.{Part}
 use Rattle.ob_code.specs.declared.faults.Part.TheVariants as part
 use Rattle.ob_code.specs.declared.image.Image.{Image}
-use Rattle.ob_code.specs.FirstFault.{IsFirstFault, IsRunnable}
+use Rattle.ob_code.specs.FirstFault.{IsFirstFault}
+use Rattle.ob_code.specs.Rules.{IsVerified}
+use Rattle.ob_space.specs.Unbuilt.{IsBuilt}
 use Rattle.ob_image.specs.Faults.{IsFirstWrong, Spells}
 use Rattle.ob_base.specs.Devices.{Reading, Writing}
 use Rattle.ob_machine.specs.Machines.{MachineState, Runs, loaded}
 use Rattle.ob_program.specs.declared.exec_answer.ExecAnswer.{ExecAnswer}
-use Rattle.ob_program.specs.declared.exec_answer.ExecAnswer.TheVariants.{FileFault, FileLong, BadImage, Ran, NoMemory}
+use Rattle.ob_program.specs.declared.exec_answer.ExecAnswer.TheVariants.{FileFault, FileLong, BadImage, Ran, NotYet, NoMemory}
 use Rattle.ob_program.specs.Answer.{Output, IsToldAs}
-use Rattle.ob_program.specs.Lines.{file_fault_line, file_long_line}
+use Rattle.ob_program.specs.Lines.{file_fault_line, file_long_line, not_yet_line}
 use Rattle.ob_program.specs.Settings.{usual}
 
 -- the most bytes that an image file has: 64 mebibytes
@@ -31,6 +33,7 @@ status_of FileFault = 129
 status_of FileLong = 130
 status_of (BadImage p at) = 135
 status_of (Ran e) = models.status_of e
+status_of NotYet = 145
 status_of NoMemory = 144
 
 -- the line for the error sink
@@ -41,6 +44,7 @@ part_name part.Pointer = codes "Pointer"
 part_name part.Function = codes "Function"
 part_name part.Main = codes "Main"
 part_name part.Code = codes "Code"
+part_name part.Names = codes "Names"
 
 abbrev pub ending_line : ending.Ending → List ℕ
 ending_line (endings.Ended n) = []
@@ -59,6 +63,7 @@ line_of FileFault = file_fault_line
 line_of FileLong = file_long_line
 line_of (BadImage p at) = codes "oblivious: BadImage " ++ (part_name p ++ (codes " " ++ (decimal at ++ codes "\n")))
 line_of (Ran e) = ending_line e
+line_of NotYet = not_yet_line
 line_of NoMemory = []
 
 -- nothing was read and written
@@ -79,10 +84,17 @@ IsBadImage bytes p at =
 pub record RanImage (bytes : List ℕ) (steps : ℕ) (e : ending.Ending) (instructions : ℕ) (r : Reading) (w : Writing) : Type 0 where
   pub image : Image
   pub spelled : Spells bytes image
-  pub runnable : IsRunnable image
+  pub verified : IsVerified image
   pub after : MachineState
   pub runs : Runs (loaded image usual) after steps e r w
   pub instructions_are : instructions ≡ after.instructions
+
+-- the bytes are those of an image that the machine doesn't run yet
+pub record IsNotYet (bytes : List ℕ) : Type 0 where
+  pub image : Image
+  pub spelled : Spells bytes image
+  pub verified : IsVerified image
+  pub unbuilt : ¬ IsBuilt image
 
 -- what the bytes of an image file came to
 abbrev pub BytesGive : List ℕ → ℕ → ExecAnswer → ℕ → Reading → Writing → Type 0
@@ -90,6 +102,7 @@ BytesGive bytes steps FileFault n r w = ⊥
 BytesGive bytes steps FileLong n r w = ⊥
 BytesGive bytes steps (BadImage p at) n r w = IsBadImage bytes p at × (n ≡ 0) × IsQuiet r w
 BytesGive bytes steps (Ran e) n r w = RanImage bytes steps e n r w
+BytesGive bytes steps NotYet n r w = IsNotYet bytes × (n ≡ 0) × IsQuiet r w
 BytesGive bytes steps NoMemory n r w = (n ≡ 0) × IsQuiet r w
 
 -- a folder that tells its files has a file of this name that is too long
@@ -111,6 +124,7 @@ ExecGives files before now name steps FileFault n r w =
 ExecGives files before now name steps FileLong n r w = IsToldLong files name × (now ≡ before) × (n ≡ 0) × IsQuiet r w
 ExecGives files before now name steps (BadImage p at) n r w = (now ≡ before) × ImageGives files name steps (BadImage p at) n r w
 ExecGives files before now name steps (Ran e) n r w = (now ≡ before) × ImageGives files name steps (Ran e) n r w
+ExecGives files before now name steps NotYet n r w = (now ≡ before) × ImageGives files name steps NotYet n r w
 ExecGives files before now name steps NoMemory n r w = (now ≡ before) × (n ≡ 0) × IsQuiet r w
 
 -- how an answer was told: its line was written and its status given; or the error sink failed; or there was no memory for the

@@ -3,6 +3,7 @@ use Rattle.std.specs.Prelude.{ℕ, pos, List, [], ◌∷◌, ◌++◌}
 use Rattle.std.specs.List.{flat_map}
 use Rattle.ob_words.specs.declared.types.BinOp.TheVariants.{Add}
 use Rattle.ob_words.specs.declared.types.IntType.TheVariants.{Int}
+use Rattle.ob_model.specs.declared.settings.Profile.TheVariants.{One}
 use Rattle.ob_code.specs.declared.image.FunctionRow.{FunctionRow}
 use Rattle.ob_code.specs.declared.image.Image.{Image}
 use Rattle.ob_code.specs.declared.instructions.Instr.{Instr}
@@ -33,4 +34,4 @@ abbrev pub main_row : FunctionRow
 main_row = record { entry = 0; params = 0; words = 4; vars = 0; allowance = 32; locals = [] }
 
 abbrev pub only_main : List Instr → Image
-only_main code = record { statics = []; pointers = []; functions = main_row ∷ []; main = 0; code = code }
+only_main code = record { profile = One; statics = []; pointers = []; functions = main_row ∷ []; main = 0; code = code; names = [] }

@@ -9,6 +9,7 @@ use ob_base::{FileAnswer, Folder, Sink, Source, write_all};
 use ob_code::{Part, verify};
 use ob_image::{ImageFault, read_image};
 use ob_machine::Machine;
+use ob_space::is_built;
 use std::alloc::Global;
 
 /// The most bytes that an image file has.
@@ -62,6 +63,9 @@ fn run_bytes<S: Source, K: Sink>(
             });
         }
     };
+    if !is_built(&v) {
+        return not_run(ExecAnswer::NotYet);
+    }
     let Ok(mut machine) = Machine::load(alloc, v, &USUAL) else {
         return not_run(ExecAnswer::NoMemory);
     };

@@ -15,6 +15,7 @@ pub(crate) enum ExecAnswer {
     FileLong,
     BadImage { part: Part, at: u64 },
     Ran(Ending),
+    NotYet,
     NoMemory,
 }
 
@@ -60,6 +61,7 @@ fn part_name(part: Part) -> &'static str
         Part::Function => "Function",
         Part::Main => "Main",
         Part::Code => "Code",
+        Part::Names => "Names",
     }
 }
 
@@ -73,6 +75,7 @@ impl ExecAnswer {
             ExecAnswer::FileLong => 130,
             ExecAnswer::BadImage { .. } => 135,
             ExecAnswer::Ran(ending) => ending_status(ending),
+            ExecAnswer::NotYet => 145,
             ExecAnswer::NoMemory => 144,
         }
     }
@@ -89,6 +92,7 @@ impl ExecAnswer {
                 format!(in alloc; "oblivious: BadImage {name} {at}\n")?
             }
             ExecAnswer::Ran(ending) => String::from_str(alloc, ending_line(ending))?,
+            ExecAnswer::NotYet => String::from_str(alloc, "oblivious: NotYet\n")?,
             ExecAnswer::NoMemory => String::new(alloc),
         })
     }

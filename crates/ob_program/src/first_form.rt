@@ -2,7 +2,8 @@
 
 ghost use Rattle.std.specs.Prelude.{◌≡◌, ◌≢◌, ◌≤◌, ◌^◌, ◌++◌, List, IfOk, OnOk, MatchOption, Some, length};
 ghost use Rattle.ob_code.specs.declared.instructions.Instr.{Instr as Instruction};
-ghost use Rattle.ob_code.specs.FirstFault.{IsRunnable};
+ghost use Rattle.ob_code.specs.Rules.{IsVerified};
+ghost use Rattle.ob_space.specs.Unbuilt.{IsBuilt};
 ghost use Rattle.ob_tree.specs.ProgramSpelling.{spell_program};
 ghost use Rattle.ob_tree.specs.ProgramView.{program_tree};
 ghost use Rattle.ob_program.specs.FirstForm.{FirstForm, HasFirstForm};
@@ -13,6 +14,7 @@ ghost use Rattle.ob_program.specs.FirstCode.{addend_code, first_code, only_main}
 use ob_base::NoMemory;
 use ob_code::{FunctionRow, Image, Instr, Rows, Verified, verify};
 use ob_flat::laws::{law_fields, law_layout, law_zeros};
+use ob_model::Profile;
 use ob_tree::{Keyword, Program, Sign, TokenKind, spell};
 use ob_words::{BinOp, IntType};
 use std::alloc::Global;
@@ -227,16 +229,18 @@ fn image_of(alloc: Global, code: Vec<Instr>) -> Result<Image, NoMemory>
         locals: Rows::from_vec(Vec::new(alloc)),
     })?;
     Ok(Image {
+        profile: Profile::One,
         statics: Rows::from_vec(Vec::new(alloc)),
         pointers: Rows::from_vec(Vec::new(alloc)),
         functions: Rows::from_vec(functions),
         main: 0,
         code: Rows::from_vec(code),
+        names: Rows::from_vec(Vec::new(alloc)),
     })
 }
 
 fn verified(image: Image) -> Verified
-    requires { IsRunnable image }
+    requires { IsVerified image }
     ensures { result ≡ image }
 {
     match verify(image) {
@@ -252,7 +256,7 @@ pub(crate) fn first_image(alloc: Global, program: &Program) -> Result<Option<Ver
     requires { length (spell_program (program_tree program.now)) ≤ 2 ^ 20 }
     ensures { IfOk result (λ o. MatchOption o
         ((f : FirstForm) → ¬ HasFirstForm (program_tree program.now) f)
-        (λ v. (f : FirstForm) × HasFirstForm (program_tree program.now) f × (v ≡ only_main (first_code f)) × Prints v f)) }
+        (λ v. (f : FirstForm) × HasFirstForm (program_tree program.now) f × (v ≡ only_main (first_code f)) × Prints v f × IsBuilt v)) }
 {
     let kinds = spell(alloc, program)?;
     let Some(code) = read_code(alloc, &kinds)? else {

@@ -1,4 +1,4 @@
-use ob_model::{Mode, RunSettings};
+use ob_model::{Mode, Profile, RunSettings};
 
 /// The settings of a run.
 pub(crate) const USUAL: RunSettings = RunSettings {
@@ -6,6 +6,7 @@ pub(crate) const USUAL: RunSettings = RunSettings {
     store: 65_536,
     away: 65_536,
     heap: 4_194_304,
+    profile: Profile::One,
 };
 
 /// The number of steps of a run, where no other is named.

@@ -5,6 +5,7 @@ ghost use Rattle.ob_program.specs.FirstCode.{first_code, only_main};
 ghost use Rattle.ob_program.specs.FirstForm.{FirstForm};
 ghost use Rattle.ob_program.specs.FirstRun.{Prints};
 ghost use Rattle.ob_program.specs.Settings.{usual_steps};
+ghost use Rattle.ob_space.specs.Unbuilt.{IsBuilt};
 
 use crate::answer::Answer;
 use crate::first_form::first_image;
@@ -76,6 +77,7 @@ fn run_source<K: Sink>(alloc: Global, bytes: &[u8], out: &mut K) -> Came
 
 /// Runs an image on an empty input. One that does what a first form says ends, unless a write fails.
 fn run_image<K: Sink>(alloc: Global, image: Verified, out: &mut K) -> Came
+    requires { IsBuilt image }
     ensures { (form : FirstForm) → (image ≡ only_main (first_code form)) → Prints image form → length form.prints < usual_steps → FormGives form result.answer result.instructions
         (record { taken_before = K.taken out.old; taken_now = K.taken out.new; tally_before = K.tally out.old; tally_now = K.tally out.new; faults_before = K.faults out.old; faults_now = K.faults out.new }) }
 {

@@ -18,7 +18,7 @@ returns g c =
     record {
       image = c.in-Ok.image;
       spelled = c.in-Ok.ensures;
-      runnable = c.in-Ok-verify.ensures.1;
+      verified = c.in-Ok-verify.ensures.1;
       after = c.run-ending.new.self;
       runs =
           subst (λ m. Runs m c.run-ending.new.self c.args.steps c.run-ending.result (reading g c) (writing g c))
