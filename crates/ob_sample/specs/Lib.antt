@@ -1,2 +1,2 @@
--- What samples are, and what a sink that counts has counted.
+-- What samples are.
 pub mod Samples

@@ -6,3 +6,4 @@ mod Complete
 mod Sound
 mod Before
 mod Read
+mod Makers

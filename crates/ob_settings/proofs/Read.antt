@@ -164,3 +164,23 @@ pub job_read : (words : List (List ℕ)) (verb : Verb) (r : Reader) (place : ℕ
     IfOk result (λ job. IsSomeAnd (number_of verb argument) (λ number. job ≡ job_of verb argument place number r.choices)) → IfOk result (λ job. IsJobOf words job)
 job_read words verb r place argument (Ok job) it argument_is is = some_number (λ number. job ≡ job_of verb argument place number r.choices) (number_of verb argument) (λ number numbered job_is. read_job words verb r place number argument job it argument_is numbered job_is) is
 job_read words verb r place argument (Err fault) it argument_is is = tt
+
+-- ---- one job
+
+same_jobs : (command : List ℕ) (others : List (List ℕ)) (job other : Job) → IsJobOf (command ∷ others) job → IsJobOf (command ∷ others) other → job ≡ other
+same_jobs command others job other it that =
+    let words = command ∷ others in
+    let verb : line_verb it.line ≡ line_verb that.line = same_verb command others (line_verb that.line) job it (verb_of_line command others other that) in
+    let readers = same_some (record { choices = it.choices; place = Some (line_place it.line) }) (record { choices = that.choices; place = Some (line_place that.line) })
+    (sym (read_as command others (line_verb that.line) job it (verb_of_line command others other that)) ∙ read_of_line command others other that) in
+    let choices : it.choices ≡ that.choices = ap (λ r. r.choices) readers in
+    let place : line_place it.line ≡ line_place that.line = same_some (line_place it.line) (line_place that.line) (ap (λ r. r.place) readers) in
+    let argument : line_argument it.line ≡ line_argument that.line =
+    sym (argument_at it.line) ∙ ap (λ w. get_or w (line_place it.line) []) (sym it.spelled) ∙ ap (λ p. get_or words p []) place ∙ ap (λ w. get_or w (line_place that.line) []) that.spelled ∙ argument_at that.line in
+    let number : it.number ≡ that.number =
+    same_some it.number that.number (sym it.numbered ∙ ap (λ v. number_of v (line_argument it.line)) verb ∙ ap (number_of (line_verb that.line)) argument ∙ that.numbered) in
+    it.job_is ∙ (λ i. job_of (verb i) (argument i) (place i) (number i) (choices i)) ∙ sym that.job_is
+
+pub one_job : (words : List (List ℕ)) (job other : Job) → IsJobOf words job → IsJobOf words other → job ≡ other
+one_job [] job other it that = absurd (no_words job it)
+one_job (command ∷ others) job other it that = same_jobs command others job other it that

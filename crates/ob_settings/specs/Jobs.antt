@@ -1,11 +1,13 @@
 -- The job of a line.
-use Rattle.std.specs.Prelude.{◌≡◌, ◌==◌, if◌then◌else◌, ℕ, true, List, Option, Some, unwrap_or}
+use Rattle.std.specs.Prelude.{◌≡◌, ◌==◌, ◌||◌, not, nat_lt, if◌then◌else◌, ℕ, Bool, true, List, Option, Some, unwrap_or}
 use Rattle.ob_model.specs.declared.settings.Mode.TheVariants.{Oblivious}
 use Rattle.ob_model.specs.declared.settings.Profile.{Profile}
 use Rattle.ob_model.specs.declared.settings.Profile.TheVariants as profile
 use Rattle.ob_model.specs.declared.settings.RunSettings.{RunSettings}
 use Rattle.ob_settings.specs.Lines.{Line, has_plain_argument, line_argument, line_choices, line_place, line_verb, line_words}
 use Rattle.ob_settings.specs.Numbers.{number_between}
+use Rattle.ob_settings.specs.Options.{has}
+use Rattle.ob_settings.specs.declared.option.Setting.TheVariants as setting
 use Rattle.ob_settings.specs.declared.choices.Choices.{Choices}
 use Rattle.ob_settings.specs.declared.job.Job.{Job}
 use Rattle.ob_settings.specs.declared.verb.Verb.{Verb}
@@ -54,6 +56,26 @@ pub record IsJobOf (words : List (List ℕ)) (job : Job) : Type 0 where
   pub number : ℕ
   pub numbered : number_of (line_verb line) (line_argument line) ≡ Some number
   pub job_is : job ≡ job_of (line_verb line) (line_argument line) (line_place line) number choices
+
+-- whether so many makers have the one that a job takes; a command without the option needs none
+abbrev pub has_maker : Job → (makers : ℕ) → Bool
+has_maker job makers = not (has job.verb setting.Maker) || nat_lt job.maker makers
+
+-- the words ask for this job, where so many makers are at hand
+pub record IsJobFor (makers : ℕ) (words : List (List ℕ)) (job : Job) : Type 0 where
+  pub asked : IsJobOf words job
+  pub maker : has_maker job makers ≡ true
+
+abbrev pub IsUsageFor : ℕ → List (List ℕ) → Type 0
+IsUsageFor makers words = (job : Job) → IsJobFor makers words job → ⊥
+
+-- words ask for one job at most
+abbrev pub OneJob : Type 0
+OneJob = (words : List (List ℕ)) (job other : Job) → IsJobOf words job → IsJobOf words other → job ≡ other
+
+-- each job that words ask for has a maker among three
+abbrev pub ThreeAreEnough : Type 0
+ThreeAreEnough = (words : List (List ℕ)) (job : Job) → IsJobOf words job → has_maker job 3 ≡ true
 
 -- no line with a job is spelled so
 abbrev pub IsUsage : List (List ℕ) → Type 0

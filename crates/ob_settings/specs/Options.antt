@@ -44,7 +44,7 @@ setting_name setting.Maker = codes "--maker"
 setting_name setting.Profile = codes "--profile"
 setting_name setting.Report = codes "--report"
 
--- the options of a command that makes one run of a program and reports on it
+-- the two options that not every command with options has
 abbrev pub is_profile : Setting → Bool
 is_profile setting.Profile = true
 is_profile _ = false

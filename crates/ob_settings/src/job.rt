@@ -1,7 +1,8 @@
 ghost use Rattle.std.specs.Prelude.{◌≡◌};
-ghost use Rattle.ob_settings.specs.Jobs.{profile_of, settings_of};
+ghost use Rattle.ob_settings.specs.Jobs.{has_maker, profile_of, settings_of};
 
 use crate::choices::Choices;
+use crate::option::Setting;
 use crate::verb::Verb;
 use ob_base::Text;
 use ob_model::{Mode, Profile, RunSettings};
@@ -24,6 +25,15 @@ pub struct Job {
     pub report: bool,
     pub number: u32,
     pub profile: u8,
+}
+
+impl Job {
+    /// Whether so many makers have the one that the job takes; a command without `--maker` needs none.
+    pub fn has_maker(&self, makers: usize) -> bool
+        ensures { result ≡ has_maker self.now makers }
+    {
+        !self.verb.has(Setting::Maker) || usize::from(self.maker) < makers
+    }
 }
 
 /// Why there is no job: the words are no line of the command line (`Usage`), or there was too little

@@ -3,18 +3,22 @@
 //! at most once, as `--name value`, `--name=value` or, for `--report`, alone; a word `--` ends the
 //! options.
 //!
-//! Which words ask for which job is said by the definitions under `specs/`, all of which are to be
-//! believed: how numbers are spelled (`Numbers`), the table of options (`Options`), what lines there are
-//! (`Lines`) and what they ask for (`Jobs`). Stands on `ob_model` for the settings of a run, and on
+//! Which words ask for which job is said by the definitions under `specs/`: how numbers are spelled
+//! (`Numbers`), the table of options (`Options`), what lines there are (`Lines`) and what they ask for
+//! (`Jobs`) are to be believed; `Reading` serves the proof. Words ask for one job at most
+//! (`law_one_job`), and whether the makers that were handed in have the one that it takes is a test of
+//! its own (`Job::has_maker`). Stands on `ob_model` for the settings of a run, and on
 //! `ob_base` for bytes.
 #![tactic(auto)]
 
 pub use job::{Job, WordsFault};
+pub use laws::law_one_job;
 pub use reader::read_words;
 pub use verb::Verb;
 
 mod choices;
 mod job;
+mod laws;
 mod numbers;
 mod option;
 mod reader;

@@ -100,9 +100,12 @@ fn whole_job(rt: HostRuntime) -> Result<(), Fail> {
     let line =
         "run --mode=boundless --store 7 a.c --away 8 --heap 9 --steps 10 --maker count --profile 2 --report";
     let given = words(rt.alloc(), line)?;
-    let Ok(job) = read_words(rt.alloc(), &given) else {
+    let answer = read_words(rt.alloc(), &given);
+    assert!(&rt; answer.is_ok());
+    let Ok(job) = answer else {
         return Ok(());
     };
+    assert_eq!(&rt; (job.has_maker(2), job.has_maker(3)), (false, true));
     assert_eq!(&rt;
         (job.verb, job.at, job.steps, job.maker),
         (Verb::Run, 4, 10, 2)
