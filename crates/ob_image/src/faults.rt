@@ -3,8 +3,8 @@ use std::alloc::{AllocError, AllocFailed};
 /// Why bytes gave no image.
 #[derive(Clone, Copy, Debug, PartialEq, Eq)]
 pub enum ImageFault {
-    /// The least place, counted from 0, such that no image's spelling begins with the bytes up to and
-    /// including it; or the length where the bytes are the beginning of one.
+    /// The least place, counted from 0, such that no image's spelling in either version begins with the
+    /// bytes up to and including it; or the length where the bytes are a proper prefix of one.
     At(u64),
     /// There was too little memory.
     NoMemory,

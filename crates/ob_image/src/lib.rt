@@ -2,7 +2,7 @@
 //! names of variables, version 1 neither. `write_image` writes the one spelling of a verified image in
 //! version 2. `read_image` reads both versions, and else tells the first byte from which no image's spelling
 //! in either is left. What was written is read back as the same image. Reading takes memory in proportion
-//! to the bytes that are there, and time linear in them.
+//! to the bytes that are there, and time linear in them, as no clause says.
 //!
 //! Stands on ob_code for images and their rules, on ob_model and ob_words for profiles, kinds, operators and
 //! fields of bytes, and on ob_base for byte lists and for what a name is. To be believed: of specs/ Layout
