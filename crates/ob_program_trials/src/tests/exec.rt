@@ -1,7 +1,7 @@
 //! `exec`: what images do, which bytes and words are refused, and what devices that fail come to.
 ghost use Rattle.std.specs.Prelude.{◌<◌};
 
-use crate::tests::images::{CALLS, DIVIDES, ECHO, HELLO, OPEN, PLACE, STILL, TICKS, image};
+use crate::tests::images::{CALLS, DIVIDES, ECHO, HEAP, HELLO, OPEN, PLACE, STILL, TICKS, image};
 use crate::tests::{ROOM, text, words};
 use ob_program::top;
 use ob_base::{MemFolder, MemSink, MemSource, NoMemory};
@@ -133,13 +133,19 @@ fn bytes_and_words_that_are_refused(rt: HostRuntime) -> Result<(), Fail> {
         (135, "oblivious: BadImage Bytes 167\n")
     );
 
-    let version = exec(alloc, "exec an.image", b"OBLV\x02\0\0\0", &sound())?;
+    let version = exec(alloc, "exec an.image", b"OBLV\x03\0\0\0", &sound())?;
     assert_eq!(rt; version.err.as_str(), "oblivious: BadImage Bytes 4\n");
 
     let open = exec(alloc, "exec an.image", &image(alloc, &OPEN)?, &sound())?;
     assert_eq!(rt;
         (open.status, open.err.as_str()),
         (135, "oblivious: BadImage Code 0\n")
+    );
+
+    let heap = exec(alloc, "exec an.image", &image(alloc, &HEAP)?, &sound())?;
+    assert_eq!(rt;
+        (heap.status, heap.instructions, heap.err.as_str()),
+        (145, 0, "oblivious: NotYet\n")
     );
     Ok(())
 }

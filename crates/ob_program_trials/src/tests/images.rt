@@ -49,6 +49,8 @@ const CALL: u8 = 10;
 
 const RETURN: u8 = 11;
 
+const MALLOC: u8 = 25;
+
 const GET: u8 = 23;
 
 const PUT: u8 = 24;
@@ -106,3 +108,9 @@ pub(crate) const ECHO: [(u8, u8, u32, u32, u32, u64); 8] = [
 
 /// Runs past its end.
 pub(crate) const OPEN: [(u8, u8, u32, u32, u32, u64); 1] = [(SET, 0, 2, 0, 0, 0)];
+
+/// Takes a block of the heap, which the machine doesn't do yet.
+pub(crate) const HEAP: [(u8, u8, u32, u32, u32, u64); 2] = [
+    (MALLOC, 0, 3, 2, 0, 0),
+    (RETURN, 0, 0, 2, 0, 0),
+];
