@@ -7,8 +7,8 @@ mod faults;
 mod forms;
 mod images;
 
-use ob_program::top;
 use ob_base::{MemFolder, MemSink, MemSource, NoMemory};
+use ob_program::top;
 use std::alloc::{AllocError, Global};
 use std::test::Fail;
 

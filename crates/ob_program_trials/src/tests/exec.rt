@@ -3,8 +3,8 @@ ghost use Rattle.std.specs.Prelude.{◌<◌};
 
 use crate::tests::images::{CALLS, DIVIDES, ECHO, HEAP, HELLO, OPEN, PLACE, STILL, TICKS, image};
 use crate::tests::{ROOM, text, words};
-use ob_program::top;
 use ob_base::{MemFolder, MemSink, MemSource, NoMemory};
+use ob_program::top;
 use std::alloc::Global;
 use std::test::Fail;
 
