@@ -15,9 +15,9 @@ use Rattle.ob_tree.specs.Places.{width, width_dims, width_init}
 use Rattle.ob_tree.specs.ProgramPlaces.{width_local, width_stmt, width_param, width_file, width_item}
 use Rattle.ob_tree.specs.Paths.{begun, begun_dims, begun_init, begun_inits, height_dims, height_init, height_inits}
 use Rattle.ob_tree.specs.ProgramPaths.{begun_local, begun_stmt, begun_block, begun_param, begun_list, begun_params, begun_file, begun_files, begun_item, begun_program, height_local, height_stmt, height_block, height_param, height_list, height_params, height_file, height_files, height_item, height_program}
-use Rattle.ob_tree.proofs.Machine.{add_dim}
-use Rattle.ob_tree.proofs.ProgramParts.{add_statement, add_local, add_init, params_of, has_items}
-use Rattle.ob_exprs.specs.Loads.{count}
+use Rattle.ob_tree.specs.ExprMachine.{add_dim}
+use Rattle.ob_tree.specs.ProgramParts.{add_statement, add_local, add_init, params_of, has_items}
+use Rattle.ob_exprs.specs.DeepestPaths.{count}
 use Rattle.ob_exprs.proofs.Adding.{dims-valid}
 use Rattle.ob_parser.proofs.Most.{node-most, most, init-most, stmt-most, local-most, param-most, file-most, item-most}
 use Rattle.ob_parser.proofs.Shapes.{names_before, params_before, inits_before}

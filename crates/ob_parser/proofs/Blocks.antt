@@ -16,10 +16,10 @@ use Rattle.ob_tree.specs.declared.programs.StmtNode as node
 use Rattle.ob_tree.specs.Trees.{Mark}
 use Rattle.ob_tree.specs.Programs.{StmtTree, BlockTrees}
 use Rattle.ob_tree.specs.ProgramView.{stmt_tree, stmt_node_tree, block_row, in_front, local_tree}
-use Rattle.ob_tree.proofs.Machine as expr
-use Rattle.ob_tree.proofs.ProgramStates.{Frame, InBlock, State, Done, Inner, Start, ForDeclaration, Statement, ForStart}
-use Rattle.ob_tree.proofs.ProgramParts.{add_statement}
-use Rattle.ob_tree.proofs.ProgramMachine.{begin_declaration, block_item, statement, statement_word, for_start, specify, optional, heading}
+use Rattle.ob_tree.specs.ExprMachine as expr
+use Rattle.ob_tree.specs.ProgramStates.{PendingStmt, InBlock, State, Done, BlockScope, ForScope, ForDeclaration, Statement, ForStart}
+use Rattle.ob_tree.specs.ProgramParts.{add_statement}
+use Rattle.ob_tree.specs.ProgramMachine.{begin_declaration, block_item, statement, statement_word, for_start, specify, optional, heading}
 use Rattle.ob_parser.specs.Statements.{begins_local, begins_type, ends_block, is_statement_word, begins_statement, word_begun, begun}
 use Rattle.ob_parser.specs.View.{block_trees}
 
@@ -37,27 +37,27 @@ statements_pushed (item.Local l ∷ is) s = ap (BlockTrees.Declaration (local_tr
 statements_pushed (item.Stmt' f l x ∷ is) s = ap (BlockTrees.Statement (stmt_node_tree x f l)) (statements_pushed is s)
 
 -- in a block
-pub local_comes : (m : Mark) (k : TokenKind) (f n : ℕ) (is : BlockTrees) (fs : List Frame) → begins_local k ≡ true
-    → block_item m k f n is fs ≡ begin_declaration m k (Inner f n is fs)
+pub local_comes : (m : Mark) (k : TokenKind) (f n : ℕ) (is : BlockTrees) (fs : List PendingStmt) → begins_local k ≡ true
+    → block_item m k f n is fs ≡ begin_declaration m k (BlockScope f n is fs)
 local_comes m (kind.Word w) f n is fs h = rw h refl
 local_comes m (kind.Name t) f n is fs h = absurd cc
 local_comes m (kind.Number v t) f n is fs h = absurd cc
 local_comes m (kind.Str t) f n is fs h = absurd cc
 local_comes m (kind.Sign s) f n is fs h = absurd cc
 
-pub block_ends : (m : Mark) (k : TokenKind) (f n : ℕ) (is : BlockTrees) (fs : List Frame) → ends_block k ≡ true
+pub block_ends : (m : Mark) (k : TokenKind) (f n : ℕ) (is : BlockTrees) (fs : List PendingStmt) → ends_block k ≡ true
     → block_item m k f n is fs ≡ Some (Done (StmtTree.Block f n is) fs)
 block_ends m (kind.Sign sign.CloseBrace) f n is fs h = refl
 block_ends m k f n is fs h = absurd cc
 
-pub statement_comes : (m : Mark) (k : TokenKind) (f n : ℕ) (is : BlockTrees) (fs : List Frame) → begins_local k ≡ false → ends_block k ≡ false
+pub statement_comes : (m : Mark) (k : TokenKind) (f n : ℕ) (is : BlockTrees) (fs : List PendingStmt) → begins_local k ≡ false → ends_block k ≡ false
     → block_item m k f n is fs ≡ statement m k (InBlock f n is ∷ fs)
 statement_comes m (kind.Word w) f n is fs h g = rw h refl
 statement_comes m (kind.Sign sign.CloseBrace) f n is fs h g = absurd cc
 statement_comes m k f n is fs h g = refl
 
 -- a statement
-word-begun : (m : Mark) (w : Keyword) (fs : List Frame) → is_statement_word w ≡ true → statement_word m w fs ≡ word_begun m w fs
+word-begun : (m : Mark) (w : Keyword) (fs : List PendingStmt) → is_statement_word w ≡ true → statement_word m w fs ≡ word_begun m w fs
 word-begun m word.If fs h = refl
 word-begun m word.While fs h = refl
 word-begun m word.Do fs h = refl
@@ -67,7 +67,7 @@ word-begun m word.Continue fs h = refl
 word-begun m word.Return fs h = refl
 word-begun m w fs h = absurd cc
 
-other-word : (m : Mark) (w : Keyword) (fs : List Frame) → is_statement_word w ≡ false
+other-word : (m : Mark) (w : Keyword) (fs : List PendingStmt) → is_statement_word w ≡ false
     → statement_word m w fs ≡ optional m (kind.Word w) (Statement m.first m.line fs)
 other-word m word.If fs h = absurd cc
 other-word m word.While fs h = absurd cc
@@ -78,25 +78,25 @@ other-word m word.Continue fs h = absurd cc
 other-word m word.Return fs h = absurd cc
 other-word m w fs h = refl
 
-pub statement_begun : (m : Mark) (k : TokenKind) (fs : List Frame) → begins_statement k ≡ true → statement m k fs ≡ begun m k fs
+pub statement_begun : (m : Mark) (k : TokenKind) (fs : List PendingStmt) → begins_statement k ≡ true → statement m k fs ≡ begun m k fs
 statement_begun m (kind.Word w) fs h = word-begun m w fs h
 statement_begun m (kind.Sign sign.OpenBrace) fs h = refl
 statement_begun m k fs h = absurd cc
 
-pub expression_stands : (m : Mark) (k : TokenKind) (fs : List Frame) → begins_statement k ≡ false → statement m k fs ≡ optional m k (Statement m.first m.line fs)
+pub expression_stands : (m : Mark) (k : TokenKind) (fs : List PendingStmt) → begins_statement k ≡ false → statement m k fs ≡ optional m k (Statement m.first m.line fs)
 expression_stands m (kind.Word w) fs h = other-word m w fs h
 expression_stands m (kind.Sign sign.OpenBrace) fs h = absurd cc
 expression_stands m k fs h = refl
 
 -- behind `for` and its opening parenthesis
-pub type_comes : (m : Mark) (k : TokenKind) (f n : ℕ) (fs : List Frame) → begins_type k ≡ true
-    → for_start m k f n fs ≡ specify m k (ForDeclaration (heading (Start f n fs) m false)) (expr.Specifier [])
+pub type_comes : (m : Mark) (k : TokenKind) (f n : ℕ) (fs : List PendingStmt) → begins_type k ≡ true
+    → for_start m k f n fs ≡ specify m k (ForDeclaration (heading (ForScope f n fs) m false)) (expr.Specifier [])
 type_comes m (kind.Word w) f n fs h = rw h refl
 type_comes m (kind.Name t) f n fs h = absurd cc
 type_comes m (kind.Number v t) f n fs h = absurd cc
 type_comes m (kind.Str t) f n fs h = absurd cc
 type_comes m (kind.Sign s) f n fs h = absurd cc
 
-pub expression_comes : (m : Mark) (k : TokenKind) (f n : ℕ) (fs : List Frame) → begins_type k ≡ false → for_start m k f n fs ≡ optional m k (ForStart f n fs)
+pub expression_comes : (m : Mark) (k : TokenKind) (f n : ℕ) (fs : List PendingStmt) → begins_type k ≡ false → for_start m k f n fs ≡ optional m k (ForStart f n fs)
 expression_comes m (kind.Word w) f n fs h = rw h refl
 expression_comes m k f n fs h = refl

@@ -17,17 +17,17 @@ use Rattle.ob_tree.specs.ProgramPlaces.{width_option, width_static, width_local,
 use Rattle.ob_tree.specs.ProgramPaths.{begun_option, begun_start, begun_stmt, begun_block, begun_local, begun_function, begun_file, begun_files, begun_program}
 use Rattle.ob_tree.specs.Fronts.{Begins}
 use Rattle.ob_tree.proofs.OneProgram.{length-function}
-use Rattle.ob_tree.proofs.ProgramStates.{Definition, Frame, InBody, InBlock, InIf, InElse, InWhile, InDo, InFor, Owner, Outer, Inner, Start, Declaration}
-use Rattle.ob_tree.proofs.ProgramParts.{add_statement, add_local, objects}
-use Rattle.ob_tree.proofs.ProgramMachine.{define}
-use Rattle.ob_tree.proofs.ProgramNames.{IsOuter, MayDeclare}
+use Rattle.ob_tree.specs.ProgramStates.{Definition, PendingStmt, InBody, InBlock, InIf, InElse, InWhile, InDo, InFor, Scope, FileScope, BlockScope, ForScope, Declaration}
+use Rattle.ob_tree.specs.ProgramParts.{add_statement, add_local, objects}
+use Rattle.ob_tree.specs.ProgramMachine.{define}
+use Rattle.ob_tree.proofs.ProgramNames.{IsFileScope, MayDeclare}
 use Rattle.ob_exprs.proofs.Filling.{leaf}
-use Rattle.ob_parser.specs.Loads.{load_stack, owner_depth, owner_load, depth_in, declaration_load}
+use Rattle.ob_parser.specs.DeepestPaths.{deepest_stack_path, scope_depth, scope_path, depth_in, declaration_path}
 use Rattle.ob_parser.proofs.Most.{node-most, most, spec-most, option-most, start-most, stmt-most, function-most}
-use Rattle.ob_parser.proofs.Shapes.{names_before, if_open, while_open, for_open, definition_spell, frame_spell, stack_spell, owner_spell, declaration_spell, Takes, Stands, OwnerOk, MayBe, DeclarationOk}
+use Rattle.ob_parser.proofs.Shapes.{names_before, if_open, while_open, for_open, definition_spell, pending_spell, stack_spell, scope_spell, declaration_spell, Takes, Stands, ScopeOk, MayBe, DeclarationOk}
 use Rattle.ob_parser.proofs.Adding.{statement-spelled, statement-valid, statement-begun, local-spelled, local-valid, local-begun, item-spelled, item-begun, all-more, name-spelled, name-begun}
 use Rattle.ob_parser.proofs.Sound.{all-objects, valid-names, valid-more}
-use Rattle.ob_parser.proofs.SoundUses.{takes-any, takes-block}
+use Rattle.ob_parser.proofs.SoundContexts.{takes-any, takes-block}
 use Rattle.ob_parser.proofs.SoundStatements.{define-valid, define-spelled}
 
 -- some program begins with these tokens, and at most m nodes of a path have begun with them
@@ -42,7 +42,7 @@ abbrev pub empty : StmtTree
 empty = StmtTree.Expr 0 0 None
 
 -- A statement that ends with this one, and what its tokens end with.
-abbrev fill : Frame → StmtTree → StmtTree
+abbrev fill : PendingStmt → StmtTree → StmtTree
 fill (InBody d) s = s
 fill (InBlock f n items) s = StmtTree.Block f n (add_statement items s)
 fill (InIf f n c) s = StmtTree.If f n c s
@@ -51,16 +51,16 @@ fill (InWhile f n c) s = StmtTree.While f n c s
 fill (InDo f n) s = StmtTree.Do f n s leaf
 fill (InFor f n start test next) s = StmtTree.For f n start test next s
 
-abbrev behind : Frame → List TokenKind
+abbrev behind : PendingStmt → List TokenKind
 behind (InBlock f n items) = kind.Sign sign.CloseBrace ∷ []
 behind (InDo f n) = while_open ++ (spell leaf ++ kind.Sign sign.CloseParen ∷ (kind.Sign sign.Semi ∷ []))
 behind f = []
 
-abbrev IsInner : Frame → Type 0
+abbrev IsInner : PendingStmt → Type 0
 IsInner (InBody d) = ⊥
 IsInner f = Unit {0}
 
-fill-spell : (f : Frame) (s : StmtTree) → IsInner f → spell_stmt (fill f s) ≡ frame_spell f ++ (spell_stmt s ++ behind f)
+fill-spell : (f : PendingStmt) (s : StmtTree) → IsInner f → spell_stmt (fill f s) ≡ pending_spell f ++ (spell_stmt s ++ behind f)
 fill-spell (InBody d) s i = absurd i
 fill-spell (InBlock f n items) s i =
     ap (λ ks. kind.Sign sign.OpenBrace ∷ (ks ++ kind.Sign sign.CloseBrace ∷ [])) (statement-spelled items s)
@@ -84,7 +84,7 @@ fill-spell (InFor f n start test next) s i =
     groups : (a b c : List TokenKind) (q : TokenKind) (d : List TokenKind) (k : TokenKind) (s : List TokenKind) → a ++ (b ++ (c ++ q ∷ (d ++ k ∷ s))) ≡ (a ++ (b ++ (c ++ q ∷ (d ++ k ∷ [])))) ++ (s ++ [])
     groups a b c q d k s = simp (append_assoc, append-nil)
 
-fill-valid : (f : Frame) (fs : List Frame) (s : StmtTree) → IsInner f → Stands (f ∷ fs) → ValidStmt s → ValidStmt (fill f s)
+fill-valid : (f : PendingStmt) (fs : List PendingStmt) (s : StmtTree) → IsInner f → Stands (f ∷ fs) → ValidStmt s → ValidStmt (fill f s)
 fill-valid (InBody d) fs s i ok v = absurd i
 fill-valid (InBlock f n items) fs s i ok v = statement-valid items s ok.0 v
 fill-valid (InIf f n c) fs s i ok v = (ok.0, v)
@@ -93,7 +93,7 @@ fill-valid (InWhile f n c) fs s i ok v = (ok.0, v)
 fill-valid (InDo f n) fs s i ok v = (v, tt)
 fill-valid (InFor f n start test next) fs s i ok v = (ok.0, ok.3, ok.4, v)
 
-fill-takes : (f : Frame) (fs : List Frame) (s : StmtTree) → IsInner f → Stands (f ∷ fs) → Takes fs (fill f s)
+fill-takes : (f : PendingStmt) (fs : List PendingStmt) (s : StmtTree) → IsInner f → Stands (f ∷ fs) → Takes fs (fill f s)
 fill-takes (InBody d) fs s i ok = absurd i
 fill-takes (InBlock f n items) fs s i ok = takes-block fs f n (add_statement items s) ok.2
 fill-takes (InIf f n c) fs s i ok = takes-any fs (StmtTree.If f n c s) ok.1
@@ -102,7 +102,7 @@ fill-takes (InWhile f n c) fs s i ok = takes-any fs (StmtTree.While f n c s) ok.
 fill-takes (InDo f n) fs s i ok = takes-any fs (StmtTree.Do f n s leaf) ok.0
 fill-takes (InFor f n start test next) fs s i ok = takes-any fs (StmtTree.For f n start test next s) ok.1
 
-fill-stands : (f : Frame) (fs : List Frame) → IsInner f → Stands (f ∷ fs) → Stands fs
+fill-stands : (f : PendingStmt) (fs : List PendingStmt) → IsInner f → Stands (f ∷ fs) → Stands fs
 fill-stands (InBody d) fs i ok = absurd i
 fill-stands (InBlock f n items) fs i ok = ok.1
 fill-stands (InIf f n c) fs i ok = ok.2
@@ -111,8 +111,8 @@ fill-stands (InWhile f n c) fs i ok = ok.2
 fill-stands (InDo f n) fs i ok = ok.1
 fill-stands (InFor f n start test next) fs i ok = ok.2
 
-fill-begun : (f : Frame) (fs : List Frame) (s : StmtTree) (j k m : ℕ) → IsInner f → k ≡ length (frame_spell f) + j → j ≤ width_stmt s
-    → load_stack (f ∷ fs) ≤ m → length fs + 1 + begun_stmt s j ≤ m → length fs + begun_stmt (fill f s) k ≤ m
+fill-begun : (f : PendingStmt) (fs : List PendingStmt) (s : StmtTree) (j k m : ℕ) → IsInner f → k ≡ length (pending_spell f) + j → j ≤ width_stmt s
+    → deepest_stack_path (f ∷ fs) ≤ m → length fs + 1 + begun_stmt s j ≤ m → length fs + begun_stmt (fill f s) k ≤ m
 fill-begun (InBody d) fs s j k m i h w l b = absurd i
 fill-begun (InBlock f n items) fs s j k m i h w l b =
     omega (arith, node-most k (begun_block (add_statement items s) (k - 1)), statement-begun items s (k - 1) j (omega (arith, h)))
@@ -156,10 +156,10 @@ fill-begun (InFor f n start test next) fs s j k m i h w l b =
       ap (λ z. begun_stmt s z) e,
     )
 
--- a statement that stands on frames
+-- a statement that stands on pending statements
 module _ (m : ℕ) where
   body-complete : (d : Definition) (s : StmtTree) (read rest : List TokenKind) → Stands (InBody d ∷ []) → ValidStmt s → IsBlock s → spell_stmt s ≡ read ++ rest
-      → load_stack (InBody d ∷ []) ≤ m → 1 + begun_stmt s (length read) ≤ m → Completes m (stack_spell (InBody d ∷ []) ++ read)
+      → deepest_stack_path (InBody d ∷ []) ≤ m → 1 + begun_stmt s (length read) ≤ m → Completes m (stack_spell (InBody d ∷ []) ++ read)
   body-complete d s read rest ok v b g l h =
       let i = ItemTree.Function d.first d.line d.fixed d.spec d.stars d.name d.at d.params s in
       let k = length (stack_spell (InBody d ∷ []) ++ read) in
@@ -193,27 +193,27 @@ module _ (m : ℕ) where
       program-some [] i v = v
       program-some (y ∷ ys) i v = v
 
-  -- what a statement that stands on these frames completes to
-  abbrev Next : List Frame → Type 0
+  -- what a statement that stands on these pending statements completes to
+  abbrev Next : List PendingStmt → Type 0
   Next fs = (s : StmtTree) (read rest : List TokenKind) → Takes fs s → ValidStmt s → spell_stmt s ≡ read ++ rest → length fs + begun_stmt s (length read) ≤ m
       → Completes m (stack_spell fs ++ read)
 
-  wrap : (f : Frame) (fs : List Frame) (s : StmtTree) (read rest : List TokenKind) → IsInner f → Stands (f ∷ fs) → ValidStmt s → spell_stmt s ≡ read ++ rest
-      → load_stack (f ∷ fs) ≤ m → length fs + 1 + begun_stmt s (length read) ≤ m → Next fs → Completes m (stack_spell (f ∷ fs) ++ read)
+  wrap : (f : PendingStmt) (fs : List PendingStmt) (s : StmtTree) (read rest : List TokenKind) → IsInner f → Stands (f ∷ fs) → ValidStmt s → spell_stmt s ≡ read ++ rest
+      → deepest_stack_path (f ∷ fs) ≤ m → length fs + 1 + begun_stmt s (length read) ≤ m → Next fs → Completes m (stack_spell (f ∷ fs) ++ read)
   wrap f fs s read rest i ok v g l h next =
-      let read2 = frame_spell f ++ read in
+      let read2 = pending_spell f ++ read in
       let g2 : spell_stmt (fill f s) ≡ read2 ++ (rest ++ behind f) =
-      fill-spell f s i ∙ ap (λ ks. frame_spell f ++ (ks ++ behind f)) g ∙ groups (frame_spell f) read rest (behind f) in
+      fill-spell f s i ∙ ap (λ ks. pending_spell f ++ (ks ++ behind f)) g ∙ groups (pending_spell f) read rest (behind f) in
       let b : length fs + begun_stmt (fill f s) (length read2) ≤ m =
-      fill-begun f fs s (length read) (length read2) m i (length-append (frame_spell f) read) (omega (arith, ap length g, length-append read rest)) l h in
-      completes-same m (stack_spell fs ++ read2) (stack_spell (f ∷ fs) ++ read) (sym (append_assoc (stack_spell fs) (frame_spell f) read))
+      fill-begun f fs s (length read) (length read2) m i (length-append (pending_spell f) read) (omega (arith, ap length g, length-append read rest)) l h in
+      completes-same m (stack_spell fs ++ read2) (stack_spell (f ∷ fs) ++ read) (sym (append_assoc (stack_spell fs) (pending_spell f) read))
       (next (fill f s) read2 (rest ++ behind f) (fill-takes f fs s i ok) (fill-valid f fs s i ok v) g2 b)
     where
       groups : (a b c d : List TokenKind) → a ++ ((b ++ c) ++ d) ≡ (a ++ b) ++ (c ++ d)
       groups a b c d = simp append_assoc
 
-  pub complete-stmt : (fs : List Frame) (s : StmtTree) (read rest : List TokenKind) → Stands fs → Takes fs s → ValidStmt s → spell_stmt s ≡ read ++ rest
-      → load_stack fs ≤ m → length fs + begun_stmt s (length read) ≤ m → Completes m (stack_spell fs ++ read)
+  pub complete-stmt : (fs : List PendingStmt) (s : StmtTree) (read rest : List TokenKind) → Stands fs → Takes fs s → ValidStmt s → spell_stmt s ≡ read ++ rest
+      → deepest_stack_path fs ≤ m → length fs + begun_stmt s (length read) ≤ m → Completes m (stack_spell fs ++ read)
   complete-stmt [] s read rest ok t v g l h = absurd t
   complete-stmt (InBody d ∷ []) s read rest ok t v g l h = body-complete d s read rest ok v t g l h
   complete-stmt (InBody d ∷ (f ∷ fs)) s read rest ok t v g l h = absurd ok.0
@@ -225,7 +225,7 @@ module _ (m : ℕ) where
 abbrev pub begun_declaration : (fixed : Bool) → SpecTree → List FileTree → ℕ → ℕ
 begun_declaration fixed s xs k = node_with k (max (begun_spec s (k - width_static fixed)) (begun_files xs (k - (width_static fixed + width_spec s))))
 
-begun-objects : (o : Owner) (xs : List FileTree) (k : ℕ) → (IsOuter o → ⊥) → AllByRecursion (MayDeclare o) xs → begun_objs (objects xs) k ≡ begun_files xs k
+begun-objects : (o : Scope) (xs : List FileTree) (k : ℕ) → (IsFileScope o → ⊥) → AllByRecursion (MayDeclare o) xs → begun_objs (objects xs) k ≡ begun_files xs k
 begun-objects o [] k n v = refl
 begun-objects o (FileTree.Object y ∷ xs) k n v = ap (λ z. max (begun_obj y k) z) (begun-objects o xs (k - (width_file (FileTree.Object y) + 1)) n v.1)
 begun-objects o (FileTree.Function i name a ps ∷ xs) k n v = absurd (n v.0)
@@ -234,10 +234,10 @@ abbrev pub declaration_tokens : (fixed : Bool) → SpecTree → List FileTree �
 declaration_tokens fixed s xs = spell_static fixed ++ (spell_spec s ++ (listed spell_file xs ++ kind.Sign sign.Semi ∷ []))
 
 module _ (m : ℕ) where
-  pub complete-declaration : (o : Owner) (fixed : Bool) (s : SpecTree) (xs : List FileTree) (read rest : List TokenKind)
-      → OwnerOk o → MayBe o fixed → ValidSpec s → AllByRecursion (MayDeclare o) xs → ValidFiles s xs → declaration_tokens fixed s xs ≡ read ++ rest
-      → owner_load o ≤ m → owner_depth o + begun_declaration fixed s xs (length read) ≤ m → Completes m (owner_spell o ++ read)
-  complete-declaration (Outer items) fixed s xs read rest ok b v d w g l h =
+  pub complete-declaration : (o : Scope) (fixed : Bool) (s : SpecTree) (xs : List FileTree) (read rest : List TokenKind)
+      → ScopeOk o → MayBe o fixed → ValidSpec s → AllByRecursion (MayDeclare o) xs → ValidFiles s xs → declaration_tokens fixed s xs ≡ read ++ rest
+      → scope_path o ≤ m → scope_depth o + begun_declaration fixed s xs (length read) ≤ m → Completes m (scope_spell o ++ read)
+  complete-declaration (FileScope items) fixed s xs read rest ok b v d w g l h =
       let i = ItemTree.Decls 0 0 fixed s xs in
       record {
         whole = items ++ i ∷ [];
@@ -250,8 +250,8 @@ module _ (m : ℕ) where
       program-some : (items : ProgramTree) (i : ItemTree) → AllByRecursion ValidItem items → ValidItem i → ValidProgram (items ++ i ∷ [])
       program-some [] i v w = (w, tt)
       program-some (y ∷ ys) i v w = (v.0, all-more ValidItem ys i v.1 w)
-  complete-declaration (Inner f n items fs) fixed s xs read rest ok b v d w g l h =
-      let o = Inner f n items fs in
+  complete-declaration (BlockScope f n items fs) fixed s xs read rest ok b v d w g l h =
+      let o = BlockScope f n items fs in
       let y : LocalTree = record { first = 0; line = 0; fixed = fixed; spec = s; names = objects xs } in
       let e : spell_local y ≡ declaration_tokens fixed s xs = ap (λ ks. spell_static fixed ++ (spell_spec s ++ (ks ++ kind.Sign sign.Semi ∷ []))) (all-objects o xs (λ z. z) d) in
       let t = StmtTree.Block f n (add_local items y) in
@@ -261,7 +261,7 @@ module _ (m : ℕ) where
       let n2 : k ≡ 1 + length (spell_block items) + r = omega (arith, length-append (spell_block items) read) in
       let p : begun_local y r ≡ begun_declaration fixed s xs r =
       ap (λ z. node_with r (max (begun_spec s (r - width_static fixed)) z)) (begun-objects o xs (r - (width_static fixed + width_spec s)) (λ z. z) d) in
-      completes-same m (stack_spell fs ++ read2) (owner_spell o ++ read) (sym (append_assoc (stack_spell fs) (kind.Sign sign.OpenBrace ∷ spell_block items) read)) (
+      completes-same m (stack_spell fs ++ read2) (scope_spell o ++ read) (sym (append_assoc (stack_spell fs) (kind.Sign sign.OpenBrace ∷ spell_block items) read)) (
       complete-stmt m fs t read2 (rest ++ kind.Sign sign.CloseBrace ∷ []) ok.1 (takes-block fs f n (add_local items y) ok.2) (local-valid items y ok.0 (v, valid-names o s xs (λ z. z) d w))
       (
       ap (λ ks. kind.Sign sign.OpenBrace ∷ (ks ++ kind.Sign sign.CloseBrace ∷ [])) (local-spelled items y ∙ ap (λ ks. spell_block items ++ ks) (e ∙ g))
@@ -273,8 +273,8 @@ module _ (m : ℕ) where
     where
       groups : (a b c d : List TokenKind) → (a ++ (b ++ c)) ++ d ≡ (a ++ b) ++ (c ++ d)
       groups a b c d = simp append_assoc
-  complete-declaration (Start f n fs) fixed s xs read rest ok b v d w g l h =
-      let o = Start f n fs in
+  complete-declaration (ForScope f n fs) fixed s xs read rest ok b v d w g l h =
+      let o = ForScope f n fs in
       let y : LocalTree = record { first = 0; line = 0; fixed = fixed; spec = s; names = objects xs } in
       let e : spell_local y ≡ declaration_tokens fixed s xs = ap (λ ks. spell_static fixed ++ (spell_spec s ++ (ks ++ kind.Sign sign.Semi ∷ []))) (all-objects o xs (λ z. z) d) in
       let t = StmtTree.For f n (StartTree.Local y) None None empty in
@@ -286,7 +286,7 @@ module _ (m : ℕ) where
       let z : k - (width_local y + 0 + 0 + 4) ≡ 0 = omega (arith, ap length (e ∙ g), length-append read rest) in
       let p : begun_local y (k - 2) ≡ begun_declaration fixed s xs r =
       ap (λ i. begun_local y i) n2 ∙ ap (λ q. node_with r (max (begun_spec s (r - width_static fixed)) q)) (begun-objects o xs (r - (width_static fixed + width_spec s)) (λ i. i) d) in
-      completes-same m (stack_spell fs ++ read2) (owner_spell o ++ read) (sym (append_assoc (stack_spell fs) for_open read)) (
+      completes-same m (stack_spell fs ++ read2) (scope_spell o ++ read) (sym (append_assoc (stack_spell fs) for_open read)) (
       complete-stmt m fs t read2 (rest ++ tail) ok.1 (takes-any fs t ok.0) ((b, (v, valid-names o s xs (λ i. i) d w)), tt, tt, tt)
       (ap (λ ks. for_open ++ (ks ++ tail)) (e ∙ g) ∙ groups for_open read rest tail)
       (omega arith)
@@ -304,10 +304,10 @@ module _ (m : ℕ) where
       groups a b c d = simp append_assoc
 
   -- a declarator
-  pub complete-name : (d : Declaration) (y : FileTree) (read rest : List TokenKind) → DeclarationOk d → ValidFile y → MayDeclare d.heading.owner y → spell_file y ≡ read ++ rest
-      → declaration_load d ≤ m → depth_in d + begun_file y (length read) ≤ m → Completes m (declaration_spell d ++ read)
+  pub complete-name : (d : Declaration) (y : FileTree) (read rest : List TokenKind) → DeclarationOk d → ValidFile y → MayDeclare d.heading.scope y → spell_file y ≡ read ++ rest
+      → declaration_path d ≤ m → depth_in d + begun_file y (length read) ≤ m → Completes m (declaration_spell d ++ read)
   complete-name d y read rest ok v w g l h =
-      let o = d.heading.owner in
+      let o = d.heading.scope in
       let fixed = d.heading.fixed in
       let xs = d.names ++ y ∷ [] in
       let read2 = spell_static fixed ++ (spell_spec d.spec ++ (names_before d.names ++ read)) in
@@ -319,7 +319,7 @@ module _ (m : ℕ) where
         length-append (spell_spec d.spec) (names_before d.names ++ read),
         length-append (names_before d.names) read,
       ) in
-      completes-same m (owner_spell o ++ read2) (declaration_spell d ++ read) (groups (owner_spell o) (spell_static fixed) (spell_spec d.spec) (names_before d.names) read) (
+      completes-same m (scope_spell o ++ read2) (declaration_spell d ++ read) (groups (scope_spell o) (spell_static fixed) (spell_spec d.spec) (names_before d.names) read) (
       complete-declaration o fixed d.spec xs read2 (rest ++ kind.Sign sign.Semi ∷ []) ok.0.0 ok.0.1 ok.1 (all-more (MayDeclare o) d.names y ok.3 w) (valid-more d.spec d.names y ok.2 v)
       (
       ap (λ ks. spell_static fixed ++ (spell_spec d.spec ++ (ks ++ kind.Sign sign.Semi ∷ []))) (name-spelled d.names y ∙ ap (λ ks. names_before d.names ++ ks) g)

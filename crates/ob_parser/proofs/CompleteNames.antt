@@ -14,20 +14,20 @@ use Rattle.ob_tree.specs.Places.{width_name, width_spec, width_dims}
 use Rattle.ob_tree.specs.Paths.{begun_spec, begun_dims, begun_init, begun_inits}
 use Rattle.ob_tree.specs.ProgramPlaces.{width_static}
 use Rattle.ob_tree.specs.ProgramPaths.{begun_param, begun_files}
-use Rattle.ob_tree.proofs.SpecSteps.{length-stars}
-use Rattle.ob_tree.proofs.ProgramStates.{Declarator, Listing, Head, OfName, OfParam, Target, Braces, SpecUse, ForDeclaration, ForParam}
-use Rattle.ob_tree.proofs.ProgramParts.{add_init, params_of, bare, initial, function}
+use Rattle.ob_tree.proofs.SpecShifts.{length-stars}
+use Rattle.ob_tree.specs.ProgramStates.{Declarator, ParamList, Head, OfName, OfParam, InitDeclarator, InitList, SpecContext, ForDeclaration, ForParam}
+use Rattle.ob_tree.specs.ProgramParts.{add_init, params_of, bare, initial, function}
 use Rattle.ob_exprs.proofs.Filling.{leaf, x, valid-x}
-use Rattle.ob_parser.specs.Loads.{depth_in, declarator_load, listing_load, head_rise, head_load, target_depth, target_load, lists_load, spec_depth, spec_load}
+use Rattle.ob_parser.specs.DeepestPaths.{depth_in, declarator_path, param_list_path, head_rise, head_path, init_declarator_depth, init_declarator_path, lists_path, spec_depth, spec_path}
 use Rattle.ob_parser.proofs.Most.{node-most, spec-most, dims-most}
-use Rattle.ob_parser.proofs.Shapes.{params_before, inits_before, owner_spell, heading_spell, declaration_spell, declarator_spell, listing_spell, head_spell, lists_spell, spec_use_spell, DeclaratorOk, ListingOk, HeadOk, TargetOk, SpecUseOk}
+use Rattle.ob_parser.proofs.Shapes.{params_before, inits_before, scope_spell, heading_spell, declaration_spell, declarator_spell, param_list_spell, head_spell, lists_spell, spec_context_spell, DeclaratorOk, ParamListOk, HeadOk, InitDeclaratorOk, SpecContextOk}
 use Rattle.ob_parser.proofs.Adding.{params-spelled, params-valid, params-begun, init-spelled, init-valid, init-some, init-begun}
 use Rattle.ob_parser.proofs.Complete.{Completes, completes-same, complete-declaration, complete-name}
 
 module _ (m : ℕ) where
   -- a row of brackets behind a name
   dims-bare : (y : Declarator) (ds : DimTrees) (read rest : List TokenKind) → DeclaratorOk y → ValidDims ds → spell_dims ds ≡ read ++ rest
-      → declarator_load y ≤ m → depth_in y.declaration + y.stars + begun_dims ds (length read) ≤ m → Completes m (declarator_spell y ++ read)
+      → declarator_path y ≤ m → depth_in y.declaration + y.stars + begun_dims ds (length read) ≤ m → Completes m (declarator_spell y ++ read)
   dims-bare y ds read rest ok v g l h =
       let read2 = stars y.stars ++ kind.Name y.name ∷ read in
       let k = length read2 in
@@ -43,8 +43,8 @@ module _ (m : ℕ) where
       groups d s n r = simp append_assoc
 
   -- an initialiser behind a row of brackets
-  complete-first : (t : Target) (i : InitTree) (read rest : List TokenKind) → TargetOk t → ValidInit i → spell_init i ≡ read ++ rest
-      → target_load t ≤ m → target_depth t + begun_init i (length read) ≤ m → Completes m (lists_spell t [] ++ read)
+  complete-first : (t : InitDeclarator) (i : InitTree) (read rest : List TokenKind) → InitDeclaratorOk t → ValidInit i → spell_init i ≡ read ++ rest
+      → init_declarator_path t ≤ m → init_declarator_depth t + begun_init i (length read) ≤ m → Completes m (lists_spell t [] ++ read)
   complete-first t i read rest ok v g l h =
       let y = t.declarator in
       let read2 = stars y.stars ++ kind.Name y.name ∷ (spell_dims t.dims ++ kind.Sign sign.Assign ∷ read) in
@@ -74,8 +74,8 @@ module _ (m : ℕ) where
       regroup s n l e r t = simp append_assoc
 
   -- an initialiser in lists
-  pub complete-init : (t : Target) (is : List Braces) (i : InitTree) (read rest : List TokenKind) → TargetOk t → AllByRecursion (λ b. ValidInits b.items) is → ValidInit i → spell_init i ≡ read ++ rest
-      → lists_load t is ≤ m → target_depth t + length is + begun_init i (length read) ≤ m → Completes m (lists_spell t is ++ read)
+  pub complete-init : (t : InitDeclarator) (is : List InitList) (i : InitTree) (read rest : List TokenKind) → InitDeclaratorOk t → AllByRecursion (λ b. ValidInits b.items) is → ValidInit i → spell_init i ≡ read ++ rest
+      → lists_path t is ≤ m → init_declarator_depth t + length is + begun_init i (length read) ≤ m → Completes m (lists_spell t is ++ read)
   complete-init t [] i read rest ok a v g l h = complete-first t i read rest ok v g l (omega (arith, h))
   complete-init t (b ∷ is) i read rest ok a v g l h =
       let z = InitTree.Braces b.first (add_init b.items i) false in
@@ -97,9 +97,9 @@ module _ (m : ℕ) where
 
   -- a row of brackets of which the first has no length gets an initialiser
   dims-open : (y : Declarator) (ds : DimTrees) (read rest : List TokenKind) → DeclaratorOk y → ValidOpenDims ds → spell_dims ds ≡ read ++ rest
-      → declarator_load y ≤ m → depth_in y.declaration + y.stars + begun_dims ds (length read) ≤ m → Completes m (declarator_spell y ++ read)
+      → declarator_path y ≤ m → depth_in y.declaration + y.stars + begun_dims ds (length read) ≤ m → Completes m (declarator_spell y ++ read)
   dims-open y ds read rest ok v g l h =
-      let t : Target = record { declarator = y; dims = ds } in
+      let t : InitDeclarator = record { declarator = y; dims = ds } in
       let i = InitTree.Value leaf in
       let read2 = stars y.stars ++ kind.Name y.name ∷ read in
       let k = length read2 in
@@ -123,14 +123,14 @@ module _ (m : ℕ) where
       regroup s n r t k = simp append_assoc
 
   complete-dims : (y : Declarator) (ds : DimTrees) (read rest : List TokenKind) → DeclaratorOk y → ValidOpenDims ds → spell_dims ds ≡ read ++ rest
-      → declarator_load y ≤ m → depth_in y.declaration + y.stars + begun_dims ds (length read) ≤ m → Completes m (declarator_spell y ++ read)
+      → declarator_path y ≤ m → depth_in y.declaration + y.stars + begun_dims ds (length read) ≤ m → Completes m (declarator_spell y ++ read)
   complete-dims y DimTrees.NoDims read rest ok v g l h = dims-bare y DimTrees.NoDims read rest ok v g l h
   complete-dims y (DimTrees.Sized e ds) read rest ok v g l h = dims-bare y (DimTrees.Sized e ds) read rest ok v g l h
   complete-dims y (DimTrees.Unsized ds) read rest ok v g l h = dims-open y (DimTrees.Unsized ds) read rest ok v g l h
 
   -- a parameter
-  pub complete-param : (l : Listing) (y : ParamTree) (read rest : List TokenKind) → ListingOk l → ValidParam y → spell_param y ≡ read ++ rest
-      → listing_load l ≤ m → depth_in l.function.declaration + begun_param y (length read) ≤ m → Completes m (listing_spell l ++ read)
+  pub complete-param : (l : ParamList) (y : ParamTree) (read rest : List TokenKind) → ParamListOk l → ValidParam y → spell_param y ≡ read ++ rest
+      → param_list_path l ≤ m → depth_in l.function.declaration + begun_param y (length read) ≤ m → Completes m (param_list_spell l ++ read)
   complete-param l y read rest ok v g b h =
       let f = l.function in
       let ps = params_of (l.params ++ y ∷ []) in
@@ -142,7 +142,7 @@ module _ (m : ℕ) where
         length-stars f.stars,
         length-append (params_before l.params) read,
       ) in
-      completes-same m (declaration_spell f.declaration ++ read2) (listing_spell l ++ read)
+      completes-same m (declaration_spell f.declaration ++ read2) (param_list_spell l ++ read)
       (groups (declaration_spell f.declaration) (stars f.stars) (kind.Name f.name) (kind.Sign sign.OpenParen) (params_before l.params) read) (
       complete-name m f.declaration (function f ps) read2 (rest ++ kind.Sign sign.CloseParen ∷ []) ok.0.0 (ok.0.1, params-valid l.params y ok.2 v) ok.1
       (
@@ -161,7 +161,7 @@ module _ (m : ℕ) where
 
   -- brackets
   pub complete-head : (h : Head) (ds : DimTrees) (read rest : List TokenKind) → HeadOk h → ValidOpenDims ds → spell_dims ds ≡ read ++ rest
-      → head_load h ≤ m → head_rise h + begun_dims ds (length read) ≤ m → Completes m (head_spell h ++ read)
+      → head_path h ≤ m → head_rise h + begun_dims ds (length read) ≤ m → Completes m (head_spell h ++ read)
   complete-head (OfName y) ds read rest ok v g b h = complete-dims y ds read rest ok v g b h
   complete-head (OfParam l f n s i name a) ds read rest ok v g b h =
       let y : ParamTree = record { first = f; line = n; spec = s; stars = i; name = name; at = a; dims = ds } in
@@ -175,7 +175,7 @@ module _ (m : ℕ) where
         length-append (spell_name name) read,
       ) in
       let e : k - (width_spec s + i + width_name name) ≡ length read = omega (arith, w) in
-      completes-same m (listing_spell l ++ read2) (head_spell (OfParam l f n s i name a) ++ read) (groups (listing_spell l) (spell_spec s) (stars i) (spell_name name) read) (
+      completes-same m (param_list_spell l ++ read2) (head_spell (OfParam l f n s i name a) ++ read) (groups (param_list_spell l) (spell_spec s) (stars i) (spell_name name) read) (
       complete-param l y read2 rest ok.0 (ok.1, ok.2, v)
       (ap (λ ks. spell_spec s ++ (stars i ++ (spell_name name ++ ks))) g ∙ regroup (spell_spec s) (stars i) (spell_name name) read rest) (omega arith)
       (omega (arith, spec-most s k, ap (λ z. begun_dims ds z) e))
@@ -188,13 +188,13 @@ module _ (m : ℕ) where
       regroup s i n r t = simp append_assoc
 
   -- a specifier
-  pub complete-spec : (u : SpecUse) (s : SpecTree) (read rest : List TokenKind) → SpecUseOk u → ValidSpec s → spell_spec s ≡ read ++ rest
-      → spec_load u ≤ m → spec_depth u + begun_spec s (length read) ≤ m → Completes m (spec_use_spell u ++ read)
+  pub complete-spec : (u : SpecContext) (s : SpecTree) (read rest : List TokenKind) → SpecContextOk u → ValidSpec s → spell_spec s ≡ read ++ rest
+      → spec_path u ≤ m → spec_depth u + begun_spec s (length read) ≤ m → Completes m (spec_context_spell u ++ read)
   complete-spec (ForParam l f n) s read rest ok v g b h =
       let y : ParamTree = record { first = f; line = n; spec = s; stars = 0; name = None; at = f; dims = DimTrees.NoDims } in
       complete-param l y read rest ok (v, tt, tt) (append-nil (spell_spec s) ∙ g) b (omega (arith, h))
   complete-spec (ForDeclaration d) s read rest ok v g b h =
-      let o = d.owner in
+      let o = d.scope in
       let y = FileTree.Object (ObjTree.Bare 0 x 0 DimTrees.NoDims) in
       let read2 = spell_static d.fixed ++ read in
       let w = width_static d.fixed in
@@ -204,8 +204,8 @@ module _ (m : ℕ) where
       let z : k - (w + width_spec s) ≡ 0 = omega (arith, n, ap length g, length-append read rest) in
       let tail = kind.Name x ∷ (kind.Sign sign.Semi ∷ []) in
       let files = λ (j : ℕ). begun_files (y ∷ []) j in
-      completes-same m (owner_spell o ++ read2) (heading_spell d ++ read)
-      (sym (append_assoc (owner_spell o) (spell_static d.fixed) read)) (
+      completes-same m (scope_spell o ++ read2) (heading_spell d ++ read)
+      (sym (append_assoc (scope_spell o) (spell_static d.fixed) read)) (
       complete-declaration m o d.fixed s (y ∷ []) read2 (rest ++ tail) ok.0 ok.1 v (tt, tt) ((valid-x, tt), tt)
       (ap (λ ks. spell_static d.fixed ++ (ks ++ tail)) g ∙ groups (spell_static d.fixed) read rest tail) (omega arith)
       (omega (arith, h, node-most k (max (begun_spec s (k - w)) (files (k - (w + width_spec s)))), ap (λ j. begun_spec s j) e, ap files z))

@@ -18,23 +18,23 @@ use Rattle.ob_tree.specs.ProgramPlaces.{width_static, width_params, width_item, 
 use Rattle.ob_tree.specs.ProgramPaths.{begun_function, begun_stmt, begun_block, begun_item, begun_program, height_function, height_item, height_program}
 use Rattle.ob_tree.specs.Fronts.{within, any}
 use Rattle.ob_tree.specs.ProgramFronts.{BeginsProgram, IsProgram}
-use Rattle.ob_tree.proofs.Machine as reader
-use Rattle.ob_tree.proofs.Readings as readings
-use Rattle.ob_tree.proofs.ProgramStates.{Definition, Frame, InBody, InBlock, InIf, InElse, InWhile, InFor, Outer, Heading, Declaration, ForDeclaration, State, Items, Specifying, Declare, Closed, Begin, Done}
-use Rattle.ob_tree.proofs.ProgramMachine.{begin_declaration, begin_body, reduce, define, step, step_if, run, whole, finish}
-use Rattle.ob_tree.proofs.ProgramRuns.{run-append, Reads, restart}
+use Rattle.ob_tree.specs.ExprMachine as reader
+use Rattle.ob_tree.specs.Readings as readings
+use Rattle.ob_tree.specs.ProgramStates.{Definition, PendingStmt, InBody, InBlock, InIf, InElse, InWhile, InFor, FileScope, Heading, Declaration, ForDeclaration, State, Items, Specifying, Declare, Closed, Begin, Done}
+use Rattle.ob_tree.specs.ProgramMachine.{begin_declaration, begin_body, reduce, define, shift, shift_if, run, whole, finish}
+use Rattle.ob_tree.proofs.ProgramRuns.{run-append, RunsTo, restart}
 use Rattle.ob_tree.proofs.ProgramNames.{named, StartsName, stars-first, name-starts, read-function}
 use Rattle.ob_tree.proofs.ProgramDeclarations.{BeginsDeclaration, read-head}
 use Rattle.ob_tree.proofs.ProgramThrough.{declares-not-else}
 use Rattle.ob_tree.proofs.OneProgram.{params-named, length-function, may-declare, read-item, read-program}
 use Rattle.ob_exprs.proofs.Begun.{full-spec}
 use Rattle.ob_exprs.proofs.Heights.{spec-place}
-use Rattle.ob_parser.specs.Loads.{declaration_load, load_stack, load}
+use Rattle.ob_parser.specs.DeepestPaths.{declaration_path, deepest_stack_path, deepest_path}
 use Rattle.ob_parser.proofs.Adding.{item-height}
 use Rattle.ob_parser.proofs.Full.{node-some, full-function, full-item, params-place, item-place}
 use Rattle.ob_parser.proofs.Shapes.{state_spell, StateOk}
 use Rattle.ob_parser.proofs.Sound.{Good}
-use Rattle.ob_parser.proofs.SoundStatements.{Kept, stmt-kept, define-valid, define-spelled, program-step-good}
+use Rattle.ob_parser.proofs.SoundStatements.{Kept, stmt-kept, define-valid, define-spelled, program-shift-good}
 use Rattle.ob_parser.proofs.Complete.{Completes}
 use Rattle.ob_parser.proofs.CompleteStates.{program-whole}
 use Rattle.ob_parser.proofs.Climbs.{Within, w-nothing, w-token, w-part, w-spelled, w-restart}
@@ -45,15 +45,15 @@ module _ (lines : ℕ → ℕ) (m : ℕ) where
   -- a function with its body
   reach-definition : (n : ℕ) (name : List ℕ) (ps : ParamsTree) (f b : ℕ) (body : BlockTrees) (fixed : Bool) (s : SpecTree) (items : ProgramTree) (st : State) (k p z g a : ℕ)
       → ValidItem (ItemTree.Function z g fixed s n name a ps (StmtTree.Block f b body))
-      → ((c : TokenKind) → BeginsDeclaration c → step (here lines p) c st ≡ begin_declaration (here lines p) c (Outer items)) → (k ≡ 0 → load st ≤ m) → height_program items ≤ m
+      → ((c : TokenKind) → BeginsDeclaration c → shift (here lines p) c st ≡ begin_declaration (here lines p) c (FileScope items)) → (k ≡ 0 → deepest_path st ≤ m) → height_program items ≤ m
       → begun_item (ItemTree.Function z g fixed s n name a ps (StmtTree.Block f b body)) k ≤ m
       → Within m (run lines p (take k (spell_item (ItemTree.Function z g fixed s n name a ps (StmtTree.Block f b body)))) (Some st))
   reach-definition n name ps f b body fixed s items st k p z g a v same y l d =
-      let o = Outer items in
+      let o = FileScope items in
       let r = p + width_static fixed in
       let q = r + width_spec s in
       let s' = place_spec lines r s in
-      let h : Heading = record { owner = o; first = p; line = lines p; fixed = fixed } in
+      let h : Heading = record { scope = o; first = p; line = lines p; fixed = fixed } in
       let decl : Declaration = record { heading = h; spec = s'; names = [] } in
       let ps' = place_params lines (q + n + 2) ps in
       let c = q + length (spell_function n name ps) in
@@ -62,7 +62,7 @@ module _ (lines : ℕ → ℕ) (m : ℕ) where
       let start = Begin (InBlock c (lines c) BlockTrees.NoItems ∷ gs) in
       let t = Specifying (ForDeclaration h) (reader.AfterSpec s' []) in
       let x = named decl n name (q + n) in
-      let open_body : step (here lines c) (kind.Sign sign.OpenBrace) (Closed x ps') ≡ Some start =
+      let open_body : shift (here lines c) (kind.Sign sign.OpenBrace) (Closed x ps') ≡ Some start =
       ap (λ t. cond t (begin_body (here lines c) o x ps') None) (params-named lines (q + n + 2) ps v.3) in
       let head = spell_static fixed ++ spell_spec s in
       let rest = spell_block body ++ kind.Sign sign.CloseBrace ∷ [] in
@@ -79,7 +79,7 @@ module _ (lines : ℕ → ℕ) (m : ℕ) where
       let n1 = node-some k (max (begun_spec s ka) (max (begun_function n ps kb) (begun_stmt (StmtTree.Block f b body) kc))) (omega arith) in
       let f1 : begun_spec s ka ≡ height_spec s = full-spec s ka v.0 (omega (arith, wh)) in
       let eb : kb ≡ suc j = omega (arith, wh) in
-      let ld : declaration_load decl ≤ m = omega (arith, d, n1, f1, spec-place lines r s) in
+      let ld : declaration_path decl ≤ m = omega (arith, d, n1, f1, spec-place lines r s) in
       let first = stars-first n name _ in
       w-part lines m (spell_function n name ps) (kind.Sign sign.OpenBrace ∷ rest) (suc j) q c t (Closed x ps') (restart (Declare decl 0) StartsName first (name-starts h s' (here lines q)) (read-function lines decl n name ps q v.2 tt))
       (λ w2. w-restart lines m (Declare decl 0) StartsName (spell_function n name ps) (suc j) q t first (name-starts h s' (here lines q)) (none-zero j)
@@ -92,8 +92,8 @@ module _ (lines : ℕ → ℕ) (m : ℕ) where
       let f2 : begun_function n ps kb ≡ height_function n ps = full-function n name ps kb v.2 (omega (arith, wh)) in
       let n2 = node-some kc (begun_block body (kc - 1)) (omega (arith, wh, lf)) in
       let ec : kc - 1 ≡ j3 = omega (arith, wh, lf) in
-      let lg : load_stack gs ≤ m = omega (arith, d, n1, f1, f2, spec-place lines r s, params-place lines (q + n + 2) ps) in
-      let lb : load_stack (InBlock c (lines c) BlockTrees.NoItems ∷ gs) ≤ m = omega (arith, lg, d, n1, n2) in
+      let lg : deepest_stack_path gs ≤ m = omega (arith, d, n1, f1, f2, spec-place lines r s, params-place lines (q + n + 2) ps) in
+      let lb : deepest_stack_path (InBlock c (lines c) BlockTrees.NoItems ∷ gs) ≤ m = omega (arith, lg, d, n1, n2) in
       reach-block lines m body c (lines c) BlockTrees.NoItems gs start j3 (c + 1) v.5 (λ u i. refl) (λ u. lb) lb (omega (arith, d, n1, n2, ap (begun_block body) ec))
       )))
       ))
@@ -104,18 +104,18 @@ module _ (lines : ℕ → ℕ) (m : ℕ) where
       head-less (suc k) x y = omega arith
 
   reach-item : (i : ItemTree) (items : ProgramTree) (s : State) (k p : ℕ) → ValidItem i
-      → ((c : TokenKind) → BeginsDeclaration c → step (here lines p) c s ≡ begin_declaration (here lines p) c (Outer items)) → (k ≡ 0 → load s ≤ m) → height_program items ≤ m
+      → ((c : TokenKind) → BeginsDeclaration c → shift (here lines p) c s ≡ begin_declaration (here lines p) c (FileScope items)) → (k ≡ 0 → deepest_path s ≤ m) → height_program items ≤ m
       → begun_item i k ≤ m → Within m (run lines p (take k (spell_item i)) (Some s))
   reach-item (ItemTree.Function f n fixed s stars name a ps (StmtTree.Block g b body)) items st k p v same z l d = reach-definition stars name ps g b body fixed s items st k p f n a v same z l d
   reach-item (ItemTree.Function f n fixed s stars name a ps _) items st k p v same z l d = absurd v.4
   reach-item (ItemTree.Decls f n fixed s xs) items st k p v same z l d =
       w-spelled lines m k p ((spell_static fixed ++ spell_spec s) ++ (listed spell_file xs ++ kind.Sign sign.Semi ∷ [])) (spell_item (ItemTree.Decls f n fixed s xs)) st
       (append_assoc (spell_static fixed) (spell_spec s) (listed spell_file xs ++ kind.Sign sign.Semi ∷ []))
-      (reach-declaration lines m (Outer items) fixed s xs st k p v.0 v.1 (may-declare items xs) same z l (omega (arith, d)))
+      (reach-declaration lines m (FileScope items) fixed s xs st k p v.0 v.1 (may-declare items xs) same z l (omega (arith, d)))
 
   -- a whole external declaration leaves no more
-  item-whole : (i : ItemTree) (items : ProgramTree) (s t : State) (p q : ℕ) → ValidItem i → ((c : TokenKind) → BeginsDeclaration c → step (here lines p) c s ≡ begin_declaration (here lines p) c (Outer items))
-      → load s ≤ m → height_program items ≤ m → height_item i ≤ m → Reads lines p (spell_item i) s q t → load t ≤ m
+  item-whole : (i : ItemTree) (items : ProgramTree) (s t : State) (p q : ℕ) → ValidItem i → ((c : TokenKind) → BeginsDeclaration c → shift (here lines p) c s ≡ begin_declaration (here lines p) c (FileScope items))
+      → deepest_path s ≤ m → height_program items ≤ m → height_item i ≤ m → RunsTo lines p (spell_item i) s q t → deepest_path t ≤ m
   item-whole i items s t p q v same a l d r =
       let n = width_item i in
       let w = reach-item i items s n p v same (λ z. a) l (omega (arith, d, full-item i n v (omega arith))) in
@@ -126,8 +126,8 @@ module _ (lines : ℕ → ℕ) (m : ℕ) where
       take-all [] = refl
       take-all (x ∷ xs) = ap (λ ks. x ∷ ks) (take-all xs)
 
-  reach-items : (is items : ProgramTree) (s : State) (k p : ℕ) → AllByRecursion ValidItem is → ((c : TokenKind) → BeginsDeclaration c → step (here lines p) c s ≡ begin_declaration (here lines p) c (Outer items))
-      → load s ≤ m → height_program items ≤ m → begun_program is k ≤ m → Within m (run lines p (take k (spell_program is)) (Some s))
+  reach-items : (is items : ProgramTree) (s : State) (k p : ℕ) → AllByRecursion ValidItem is → ((c : TokenKind) → BeginsDeclaration c → shift (here lines p) c s ≡ begin_declaration (here lines p) c (FileScope items))
+      → deepest_path s ≤ m → height_program items ≤ m → begun_program is k ≤ m → Within m (run lines p (take k (spell_program is)) (Some s))
   reach-items [] items s k p v same a l d = w-nothing lines m k p s a
   reach-items (i ∷ is) items s k p v same a l d =
       let r = read-item lines i items s p v.0 same in
@@ -155,17 +155,17 @@ program-some (x ∷ xs) i v = v
 record IsFinished (s : State) (t : ProgramTree) : Type 0 where
   valid : ValidProgram t
   spelled : spell_program t ≡ state_spell s
-  limit : height_program t ≤ load s
+  limit : height_program t ≤ deepest_path s
 
--- closing frames keeps the nodes
-pub reduce-load : (s : StmtTree) (fs : List Frame) → load (Done (reduce s fs).0 (reduce s fs).1) ≡ load (Done s fs)
-reduce-load s (InIf f n c ∷ fs) = omega (arith, reduce-load (StmtTree.If f n c s) fs)
-reduce-load s (InElse f n c x ∷ fs) = omega (arith, reduce-load (StmtTree.IfElse f n c x s) fs)
-reduce-load s (InWhile f n c ∷ fs) = omega (arith, reduce-load (StmtTree.While f n c s) fs)
-reduce-load s (InFor f n i c x ∷ fs) = omega (arith, reduce-load (StmtTree.For f n i c x s) fs)
-reduce-load s fs = refl
+-- closing pending statements keeps the nodes
+pub reduce-path : (s : StmtTree) (fs : List PendingStmt) → deepest_path (Done (reduce s fs).0 (reduce s fs).1) ≡ deepest_path (Done s fs)
+reduce-path s (InIf f n c ∷ fs) = omega (arith, reduce-path (StmtTree.If f n c s) fs)
+reduce-path s (InElse f n c x ∷ fs) = omega (arith, reduce-path (StmtTree.IfElse f n c x s) fs)
+reduce-path s (InWhile f n c ∷ fs) = omega (arith, reduce-path (StmtTree.While f n c s) fs)
+reduce-path s (InFor f n i c x ∷ fs) = omega (arith, reduce-path (StmtTree.For f n i c x s) fs)
+reduce-path s fs = refl
 
-finished-body : (s : StmtTree) (fs : List Frame) (t : ProgramTree) (r : StmtTree × List Frame) → Kept s fs r → load (Done r.0 r.1) ≡ load (Done s fs) → whole r.0 r.1 ≡ Some t → IsFinished (Done s fs) t
+finished-body : (s : StmtTree) (fs : List PendingStmt) (t : ProgramTree) (r : StmtTree × List PendingStmt) → Kept s fs r → deepest_path (Done r.0 r.1) ≡ deepest_path (Done s fs) → whole r.0 r.1 ≡ Some t → IsFinished (Done s fs) t
 finished-body s fs t (y, InBody d ∷ []) k l e =
     let i = ItemTree.Function d.first d.line d.fixed d.spec d.stars d.name d.at d.params y in
     let q : define d y ≡ t = cc in
@@ -182,7 +182,7 @@ finished : (s : State) (t : ProgramTree) → StateOk s → finish s ≡ Some t �
 finished (Items (i ∷ is)) t ok e =
     let q : i ∷ is ≡ t = cc in
     let w : IsFinished (Items (i ∷ is)) (i ∷ is) = record { valid = ok; spelled = refl; limit = omega arith } in subst (IsFinished (Items (i ∷ is))) q w
-finished (Done s fs) t ok e = finished-body s fs t (reduce s fs) (stmt-kept s fs ok.0 ok.1 ok.2) (reduce-load s fs) e
+finished (Done s fs) t ok e = finished-body s fs t (reduce s fs) (stmt-kept s fs ok.0 ok.1 ok.2) (reduce-path s fs) e
 finished s t ok e = let n : None ≡ Some t = e in cc
 
 -- a state that stands for the tokens
@@ -202,9 +202,9 @@ module _ (lines : ℕ → ℕ) where
   run-stays p [] before o a h = rw append-nil h
   run-stays p (k ∷ ks) before None a h = subst (Stays (before ++ k ∷ ks)) (sym (run-nothing (p + 1) ks)) tt
   run-stays p (k ∷ ks) before (Some s) a h =
-      let g : Good (state_spell s) k (step (here lines p) k s) = program-step-good (here lines p) k s (All-head IsOfSource k ks a) h.0 in
-      subst (λ x. Stays x (run lines (p + 1) ks (step (here lines p) k s))) (append_assoc before (k ∷ []) ks)
-      (run-stays (p + 1) ks (before ++ k ∷ []) (step (here lines p) k s) (All-tail IsOfSource k ks a) (stays before h.1 (step (here lines p) k s) g))
+      let g : Good (state_spell s) k (shift (here lines p) k s) = program-shift-good (here lines p) k s (All-head IsOfSource k ks a) h.0 in
+      subst (λ x. Stays x (run lines (p + 1) ks (shift (here lines p) k s))) (append_assoc before (k ∷ []) ks)
+      (run-stays (p + 1) ks (before ++ k ∷ []) (shift (here lines p) k s) (All-tail IsOfSource k ks a) (stays before h.1 (shift (here lines p) k s) g))
     where
       stays : (before : List TokenKind) → state_spell s ≡ before → (o : Option State) → Good (state_spell s) k o → Stays (before ++ k ∷ []) o
       stays before e None g = tt
@@ -223,11 +223,11 @@ module _ (lines : ℕ → ℕ) where
           absurd cc
       go (Some t) n = (t, refl)
 
-  goes : (m : ℕ) (o : Option State) → Within m o → (s : State) × (o ≡ Some s) × (load s ≤ m)
+  goes : (m : ℕ) (o : Option State) → Within m o → (s : State) × (o ≡ Some s) × (deepest_path s ≤ m)
   goes m None w = absurd w
   goes m (Some s) w = (s, refl, w)
 
-  pub goes-on : (ks : List TokenKind) → BeginsProgram (within 0) ks → (s : State) × (machine lines ks ≡ Some s) × (0 + load s ≤ 256)
+  pub goes-on : (ks : List TokenKind) → BeginsProgram (within 0) ks → (s : State) × (machine lines ks ≡ Some s) × (0 + deepest_path s ≤ 256)
   goes-on ks b =
       let n = begun_program b.whole (length ks) in
       let same : take (length ks) (spell_program b.whole) ≡ ks = ap (take (length ks)) b.spelled ∙ take-append_seam ks b.rest in
@@ -239,10 +239,10 @@ module _ (lines : ℕ → ℕ) where
   goes-on-deep : (ks : List TokenKind) → BeginsProgram any ks → (s : State) × (machine lines ks ≡ Some s)
   goes-on-deep ks b = let r = read-program lines b.whole b.valid in run-part ks b.rest r.state (ap (machine lines) (sym b.spelled) ∙ r.reads.runs)
 
-  completes : (ks : List TokenKind) (s : State) → All IsOfSource ks → machine lines ks ≡ Some s → BeginsProgram (λ n. n ≤ load s) ks
-  completes ks s a e = let k = machine-stays ks s a e in subst (Completes (load s)) k.1 (program-whole (load s) s k.0 (omega arith))
+  completes : (ks : List TokenKind) (s : State) → All IsOfSource ks → machine lines ks ≡ Some s → BeginsProgram (λ n. n ≤ deepest_path s) ks
+  completes ks s a e = let k = machine-stays ks s a e in subst (Completes (deepest_path s)) k.1 (program-whole (deepest_path s) s k.0 (omega arith))
 
-  begins : (ks : List TokenKind) (s : State) → All IsOfSource ks → machine lines ks ≡ Some s → 0 + load s ≤ 256 → BeginsProgram (within 0) ks
+  begins : (ks : List TokenKind) (s : State) → All IsOfSource ks → machine lines ks ≡ Some s → 0 + deepest_path s ≤ 256 → BeginsProgram (within 0) ks
   begins ks s a e l =
       let w = completes ks s a e in
       record { whole = w.whole; rest = w.rest; valid = w.valid; spelled = w.spelled; limit = omega (arith, w.limit) }
@@ -260,7 +260,7 @@ module _ (lines : ℕ → ℕ) where
       let f : r.state ≡ s = cc in
       subst (λ x. finish x ≡ Some (place_program lines 0 t)) f r.whole
 
-  pub some-tree : (ks : List TokenKind) (s : State) (t : ProgramTree) → All IsOfSource ks → machine lines ks ≡ Some s → 0 + load s ≤ 256 → finish s ≡ Some t
+  pub some-tree : (ks : List TokenKind) (s : State) (t : ProgramTree) → All IsOfSource ks → machine lines ks ≡ Some s → 0 + deepest_path s ≤ 256 → finish s ≡ Some t
       → IsProgram (within 0) ks t × PlacedProgram lines t
   some-tree ks s t a e l f =
       let k = machine-stays ks s a e in
@@ -275,9 +275,9 @@ module _ (lines : ℕ → ℕ) where
       absurd cc
 
   -- the machine for programs goes on exactly as long as some program begins so
-  pub exact-program : readings.Reads (λ q k s. step (here lines q) k s) load finish BeginsProgram IsProgram (PlacedProgram lines) 0 0 (machine lines)
+  pub exact-program : readings.CorrectPrefix (λ q k s. shift (here lines q) k s) deepest_path finish BeginsProgram IsProgram (PlacedProgram lines) 0 0 (machine lines)
   exact-program = record {
-    more = λ ks k s e. run-append lines 0 ks (k ∷ []) (Some (Items [])) ∙ ap (λ o. step_if (here lines (0 + length ks)) k o) e;
+    more = λ ks k s e. run-append lines 0 ks (k ∷ []) (Some (Items [])) ∙ ap (λ o. shift_if (here lines (0 + length ks)) k o) e;
     goes_on = goes-on;
     goes_on_deep = goes-on-deep;
     begins = begins;

@@ -14,7 +14,7 @@ use Rattle.ob_tree.specs.Places.{width, width_name, width_spec, width_objs, widt
 use Rattle.ob_tree.specs.Paths.{node_with, begun, begun_spec, begun_objs, begun_obj, begun_dims, begun_init, begun_inits, height_objs, height_obj, height_dims, height_init, height_inits}
 use Rattle.ob_tree.specs.ProgramPlaces.{width_option, width_static, width_local, width_start, width_stmt, width_param, width_params, width_file, width_item, place_option, place_local, place_start, place_stmt, place_block, place_param, place_list, place_params, place_file, place_files, place_item}
 use Rattle.ob_tree.specs.ProgramPaths.{begun_option, begun_local, begun_start, begun_stmt, begun_block, begun_param, begun_list, begun_params, begun_function, begun_file, begun_files, begun_item, height_option, height_local, height_start, height_stmt, height_block, height_param, height_list, height_params, height_function, height_file, height_files, height_item}
-use Rattle.ob_tree.proofs.SpecSteps.{length-stars}
+use Rattle.ob_tree.proofs.SpecShifts.{length-stars}
 use Rattle.ob_tree.proofs.OneProgram.{length-function}
 use Rattle.ob_exprs.proofs.Begun.{begun-full, full-spec, full-dims}
 use Rattle.ob_exprs.proofs.Heights.{height-place, spec-place, objs-place, obj-place, dims-place}
@@ -130,8 +130,8 @@ width-block f n items = omega (arith, length-append (spell_block items) (kind.Si
 pub width-if : (f n : ℕ) (c : ExprTree) (s : StmtTree) → width_stmt (StmtTree.If f n c s) ≡ width c + width_stmt s + 3
 width-if f n c s = omega (arith, length-append (spell c) (kind.Sign sign.CloseParen ∷ spell_stmt s))
 
-pub width-if_else : (f n : ℕ) (c : ExprTree) (s t : StmtTree) → width_stmt (StmtTree.IfElse f n c s t) ≡ width c + width_stmt s + width_stmt t + 4
-width-if_else f n c s t =
+pub width-if_else_stmt : (f n : ℕ) (c : ExprTree) (s t : StmtTree) → width_stmt (StmtTree.IfElse f n c s t) ≡ width c + width_stmt s + width_stmt t + 4
+width-if_else_stmt f n c s t =
     omega (arith, length-append (spell c) (kind.Sign sign.CloseParen ∷ (spell_stmt s ++ kind.Word word.Else ∷ spell_stmt t)), length-append (spell_stmt s) (kind.Word word.Else ∷ spell_stmt t))
 
 pub width-while : (f n : ℕ) (c : ExprTree) (s : StmtTree) → width_stmt (StmtTree.While f n c s) ≡ width c + width_stmt s + 3
@@ -172,7 +172,7 @@ mutual
         full-stmt s (k - (width c + 3)) v.1 (omega (arith, h, w)),
       )
   full-stmt (StmtTree.IfElse f n c s t) k v h =
-      let w = width-if_else f n c s t in
+      let w = width-if_else_stmt f n c s t in
       omega (
         arith,
         node-some k (max (begun c (k - 2)) (max (begun_stmt s (k - (width c + 3))) (begun_stmt t (k - (width c + width_stmt s + 4))))) (omega (arith, h, w)),

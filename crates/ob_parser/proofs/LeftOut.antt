@@ -7,14 +7,14 @@ use Rattle.ob_tree.specs.declared.expressions.ExprNode.TheBlock.{Dim-length-None
 use Rattle.ob_tree.specs.declared.expressions.Dim.{Dim, Dim', roll-Dim, out-roll-Dim, is-Dim'}
 use Rattle.ob_tree.specs.Trees.{Mark, DimTrees, InitTree}
 use Rattle.ob_tree.specs.ExpressionView.{node_tree, expr_tree, dim_trees}
-use Rattle.ob_tree.proofs.Frames.{add_dim}
-use Rattle.ob_tree.proofs.Machine as expr
-use Rattle.ob_tree.proofs.ProgramStates as plain
-use Rattle.ob_tree.proofs.ProgramParts.{at_bracket}
-use Rattle.ob_tree.proofs.ProgramMachine.{first_length, used, read, optional, optional_to}
+use Rattle.ob_tree.specs.ExprStates.{add_dim}
+use Rattle.ob_tree.specs.ExprMachine as expr
+use Rattle.ob_tree.specs.ProgramStates as plain
+use Rattle.ob_tree.specs.ProgramParts.{at_bracket}
+use Rattle.ob_tree.specs.ProgramMachine.{first_length, used, read, optional, optional_to}
 use Rattle.ob_parser.specs.declared.state.State.{State}
 use Rattle.ob_parser.specs.Statements.{goes_on}
-use Rattle.ob_parser.specs.Steps.{Leads, Reaches, stepped}
+use Rattle.ob_parser.specs.Shifts.{Leads, Reaches, shifted}
 use Rattle.ob_parser.proofs.Pushed.{reaches_leads}
 
 -- brackets without a length
@@ -36,18 +36,18 @@ first_length_some k h [] n = refl
 first_length_some k h (d ∷ ds) n = absurd (omega arith)
 
 -- an expression that may be left out
-goes-to : (m : Mark) (k : TokenKind) (u : plain.Use) (o : Option plain.State) → goes_on o ≡ true → optional_to m k u o ≡ o
+goes-to : (m : Mark) (k : TokenKind) (u : plain.ExprContext) (o : Option plain.State) → goes_on o ≡ true → optional_to m k u o ≡ o
 goes-to m k u None h = absurd cc
 goes-to m k u (Some s) h = refl
 
-reads-to : (m : Mark) (k : TokenKind) (u : plain.Use) (o : Option plain.State) → goes_on o ≡ false → optional_to m k u o ≡ read m k u (expr.Operand [])
+reads-to : (m : Mark) (k : TokenKind) (u : plain.ExprContext) (o : Option plain.State) → goes_on o ≡ false → optional_to m k u o ≡ read m k u (expr.BeforeOperand [])
 reads-to m k u None h = refl
 reads-to m k u (Some s) h = absurd cc
 
-pub left_out : (k : TokenKind) (u : plain.Use) (o : Option State) → true ≡ goes_on (used k u None) → Reaches o (used k u None)
-    → (m : Mark) → Leads m k (stepped o) (optional m k u)
+pub left_out : (k : TokenKind) (u : plain.ExprContext) (o : Option State) → true ≡ goes_on (used k u None) → Reaches o (used k u None)
+    → (m : Mark) → Leads m k (shifted o) (optional m k u)
 left_out k u o g h m =
-    subst (λ next. Leads m k (stepped o) next) (sym (goes-to m k u (used k u None) (sym g))) (reaches_leads m k o (used k u None) h)
+    subst (λ next. Leads m k (shifted o) next) (sym (goes-to m k u (used k u None) (sym g))) (reaches_leads m k o (used k u None) h)
 
-pub stands : (k : TokenKind) (u : plain.Use) → false ≡ goes_on (used k u None) → (m : Mark) → optional m k u ≡ read m k u (expr.Operand [])
+pub stands : (k : TokenKind) (u : plain.ExprContext) → false ≡ goes_on (used k u None) → (m : Mark) → optional m k u ≡ read m k u (expr.BeforeOperand [])
 stands k u g m = reads-to m k u (used k u None) (sym g)

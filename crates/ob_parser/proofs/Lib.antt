@@ -3,7 +3,7 @@ pub mod Shapes
 pub mod Adding
 pub mod Sound
 pub mod SoundDeclarations
-pub mod SoundUses
+pub mod SoundContexts
 pub mod SoundStatements
 pub mod Complete
 pub mod CompleteNames

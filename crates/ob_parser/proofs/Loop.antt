@@ -19,26 +19,26 @@ use Rattle.ob_tree.specs.ProgramView.{item_tree, program_tree}
 use Rattle.ob_tree.specs.Valid.{IsOfSource}
 use Rattle.ob_tree.specs.Places.{here}
 use Rattle.ob_tree.specs.Fronts.{lines}
-use Rattle.ob_tree.specs.Answers.{Verdict, Whole, NoTree, TooDeep}
-use Rattle.ob_tree.proofs.Readings.{read, found, verdict}
-use Rattle.ob_tree.proofs.ProgramStates as plain
-use Rattle.ob_tree.proofs.ProgramStates.{SpecUse, Use}
-use Rattle.ob_tree.proofs.ProgramMachine.{use_level, used, specified, step, finish}
+use Rattle.ob_tree.specs.Verdicts.{Verdict, Whole, NoTree, TooDeep}
+use Rattle.ob_tree.specs.Readings.{read, found, verdict}
+use Rattle.ob_tree.specs.ProgramStates as plain
+use Rattle.ob_tree.specs.ProgramStates.{SpecContext, ExprContext}
+use Rattle.ob_tree.specs.ProgramMachine.{context_level, used, specified, shift, finish}
 use Rattle.ob_exprs.specs.Parsed.{IsExprVerdict, ParsedExpr, IsSpecVerdict, ParsedSpec}
 use Rattle.ob_parser.specs.declared.state.State.{State}
 use Rattle.ob_parser.specs.declared.state.State.TheVariants as state
-use Rattle.ob_parser.specs.declared.state.Step.{Step}
-use Rattle.ob_parser.specs.declared.state.Step.TheVariants as stepped_to
-use Rattle.ob_parser.specs.declared.state.Use.{Use as CodeUse}
-use Rattle.ob_parser.specs.declared.state.SpecUse.{SpecUse as CodeSpecUse}
+use Rattle.ob_parser.specs.declared.state.Shift.{Shift}
+use Rattle.ob_parser.specs.declared.state.Shift.TheVariants as shifted_to
+use Rattle.ob_parser.specs.declared.state.ExprContext.{ExprContext as CodeContext}
+use Rattle.ob_parser.specs.declared.state.SpecContext.{SpecContext as CodeSpecUse}
 use Rattle.ob_parser.specs.Answer.{Answer, IsAnswer, IsProgramVerdict, ParsedProgram}
-use Rattle.ob_parser.specs.Loads.{spec_depth, use_depth, load}
-use Rattle.ob_parser.specs.Steps.{Leads, Reaches, state_of}
-use Rattle.ob_parser.specs.View.{spec_use_of, use_of}
-use Rattle.ob_parser.specs.Reads.{Kept, Behind, Ends, After, AwaitsExpr, AwaitsSpec, IsRightFault, Turned}
+use Rattle.ob_parser.specs.DeepestPaths.{spec_depth, context_depth, deepest_path}
+use Rattle.ob_parser.specs.Shifts.{Leads, Reaches, state_of}
+use Rattle.ob_parser.specs.View.{spec_context_of, expr_context_of}
+use Rattle.ob_parser.specs.ReadTokens.{Kept, Behind, Ends, After, AwaitsExpr, AwaitsSpec, IsRightFault, Turned}
 use Rattle.ob_parser.proofs.OneAnswer.{first-right, parsed, no-tree}
 use Rattle.ob_parser.proofs.Light.{IsBetween}
-use Rattle.ob_parser.proofs.Follows.{token-at, stepped, awaits-expr, awaits-spec}
+use Rattle.ob_parser.proofs.Follows.{token-at, shifted, awaits-expr, awaits-spec}
 
 -- What stands behind a tree.
 module _ (ts : List Token) (i j : ℕ) (next : TokenKind → Option plain.State) (e : Ends ts i j next) where
@@ -57,9 +57,9 @@ none_left value ts j None e n = sym e
 none_left value ts j (Some x) e n = absurd (n x refl)
 
 -- What the parser of expressions answers.
-module _ (ts : List Token) (i : ℕ) (u : Use) (w : AwaitsExpr ts i u) (depth level : ℕ) (d : depth ≡ min (use_depth u) 256) (l : level ≡ use_level u) where
+module _ (ts : List Token) (i : ℕ) (u : ExprContext) (w : AwaitsExpr ts i u) (depth level : ℕ) (d : depth ≡ min (context_depth u) 256) (l : level ≡ context_level u) where
   expr-leads : (v : Verdict ExprTree) → IsExprVerdict ts i depth level v → After ts i (λ j e k. used k u (Some e)) v
-  expr-leads v h = w v (subst (λ m. IsExprVerdict ts i (min (use_depth u) 256) m v) l (subst (λ n. IsExprVerdict ts i n level v) d h))
+  expr-leads v h = w v (subst (λ m. IsExprVerdict ts i (min (context_depth u) 256) m v) l (subst (λ n. IsExprVerdict ts i n level v) d h))
 
   pub expr-fault : (x : SyntaxFault) → ParsedExpr ts i depth level (Err x) → IsRightFault ts x
   expr-fault (fault.NoTree j) h = expr-leads (NoTree j) h
@@ -70,7 +70,7 @@ module _ (ts : List Token) (i : ℕ) (u : Use) (w : AwaitsExpr ts i u) (depth le
   expr-ends e j h = expr-leads (Whole (expr_tree e) j) h
 
 -- What the parser of specifiers answers.
-module _ (ts : List Token) (i : ℕ) (u : SpecUse) (w : AwaitsSpec ts i u) (depth : ℕ) (d : depth ≡ spec_depth u) (b : depth ≤ 256) where
+module _ (ts : List Token) (i : ℕ) (u : SpecContext) (w : AwaitsSpec ts i u) (depth : ℕ) (d : depth ≡ spec_depth u) (b : depth ≤ 256) where
   spec-leads : (v : Verdict SpecTree) → IsSpecVerdict ts i depth v → After ts i (λ j s k. specified (here (lines ts) j) k u (Some s)) v
   spec-leads v h = w.shallow (omega (arith, d, b)) v (subst (λ n. IsSpecVerdict ts i n v) d h)
 
@@ -114,31 +114,31 @@ between (state.ForOpen f n fs) = tt
 between (state.Semi s fs) = tt
 between (state.Done s fs) = tt
 
--- What one step leads to.
-module _ (ts : List Token) (all : All (λ t. IsOfSource t.kind) ts) (i : ℕ) (t : Token) (b : i < length ts) (q : t ≡ get_or ts i t) (s : State) (k : Kept ts i (state_of s)) (x : Step)
-    (given : Leads (record { first = i; at = i; line = t.span.line }) t.kind x (step (record { first = i; at = i; line = t.span.line }) t.kind (state_of s))) where
+-- What one shift leads to.
+module _ (ts : List Token) (all : All (λ t. IsOfSource t.kind) ts) (i : ℕ) (t : Token) (b : i < length ts) (q : t ≡ get_or ts i t) (s : State) (k : Kept ts i (state_of s)) (x : Shift)
+    (given : Leads (record { first = i; at = i; line = t.span.line }) t.kind x (shift (record { first = i; at = i; line = t.span.line }) t.kind (state_of s))) where
   found_at : slice_get ts i ≡ Some t
   found_at = token_read ts i t b q
 
-  leads : (y : Step) → x ≡ y → Leads (here (lines ts) i) t.kind y (step (here (lines ts) i) t.kind (state_of s))
+  leads : (y : Shift) → x ≡ y → Leads (here (lines ts) i) t.kind y (shift (here (lines ts) i) t.kind (state_of s))
   leads y e =
-      subst (λ z. Leads (here (lines ts) i) t.kind z (step (here (lines ts) i) t.kind (state_of s))) e
-      (at_line ts i t (λ m. Leads m t.kind x (step m t.kind (state_of s))) found_at given)
+      subst (λ z. Leads (here (lines ts) i) t.kind z (shift (here (lines ts) i) t.kind (state_of s))) e
+      (at_line ts i t (λ m. Leads m t.kind x (shift m t.kind (state_of s))) found_at given)
 
-  next : Behind ts i (step (here (lines ts) i) t.kind (state_of s))
-  next = stepped ts all i t (token-at ts i t found_at) (state_of s) (between s) k
+  next : Behind ts i (shift (here (lines ts) i) t.kind (state_of s))
+  next = shifted ts all i t (token-at ts i t found_at) (state_of s) (between s) k
 
-  pub turn-goes : (y : State) → x ≡ stepped_to.Goes y → Turned ts i (Ok (y, i))
-  turn-goes y e = (omega arith, b, subst (Behind ts i) (leads (stepped_to.Goes y) e) next)
+  pub turn-goes : (y : State) → x ≡ shifted_to.Shifted y → Turned ts i (Ok (y, i))
+  turn-goes y e = (omega arith, b, subst (Behind ts i) (leads (shifted_to.Shifted y) e) next)
 
-  pub turn-stuck : x ≡ stepped_to.Stuck → IsAnswer ts (Answer.NoTree i)
-  turn-stuck e = subst (Behind ts i) (leads stepped_to.Stuck e) next
+  pub turn-stuck : x ≡ shifted_to.Rejected → IsAnswer ts (Answer.NoTree i)
+  turn-stuck e = subst (Behind ts i) (leads shifted_to.Rejected e) next
 
-  pub turn-reads : (u : CodeUse) → x ≡ stepped_to.Reads u → AwaitsExpr ts i (use_of u)
-  turn-reads u e = awaits-expr ts all i t (token-at ts i t found_at) (state_of s) (between s) k (use_of u) (leads (stepped_to.Reads u) e)
+  pub turn-reads : (u : CodeContext) → x ≡ shifted_to.NeedsExpr u → AwaitsExpr ts i (expr_context_of u)
+  turn-reads u e = awaits-expr ts all i t (token-at ts i t found_at) (state_of s) (between s) k (expr_context_of u) (leads (shifted_to.NeedsExpr u) e)
 
-  pub turn-specifies : (u : CodeSpecUse) → x ≡ stepped_to.Specifies u → AwaitsSpec ts i (spec_use_of u)
-  turn-specifies u e = awaits-spec ts all i t (token-at ts i t found_at) (state_of s) (between s) k (spec_use_of u) found_at (leads (stepped_to.Specifies u) e)
+  pub turn-specifies : (u : CodeSpecUse) → x ≡ shifted_to.NeedsSpec u → AwaitsSpec ts i (spec_context_of u)
+  turn-specifies u e = awaits-spec ts all i t (token-at ts i t found_at) (state_of s) (between s) k (spec_context_of u) found_at (leads (shifted_to.NeedsSpec u) e)
 
 -- nothing was read yet
 pub at-start : (ts : List Token) → All (λ t. IsOfSource t.kind) ts → (items : List Item) → items ≡ [] → Kept ts 0 (plain.Items (map item_tree items))
@@ -150,7 +150,7 @@ module _ (ts : List Token) (all : All (λ t. IsOfSource t.kind) ts) (s : plain.S
   last : (o : Option ProgramTree) → finish s ≡ o → IsProgramVerdict ts (found (length ts) o)
   last o e =
       subst (IsProgramVerdict ts)
-      (ap (λ (rest : List Token). verdict finish (read (λ q k x. step (here (lines ts) q) k x) load 0 (length ts) (map (λ t. t.kind) rest) s)) (drop-length ts) ∙ ap (found (length ts)) e) k.right
+      (ap (λ (rest : List Token). verdict finish (read (λ q k x. shift (here (lines ts) q) k x) deepest_path 0 (length ts) (map (λ t. t.kind) rest) s)) (drop-length ts) ∙ ap (found (length ts)) e) k.right
 
   end-whole : (p : ProgramTree) → finish s ≡ Some p → IsAnswer ts (Answer.Parsed p)
   end-whole p e = parsed ts all (length ts) p (omega arith) (last (Some p) e)

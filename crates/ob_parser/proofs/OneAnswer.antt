@@ -12,12 +12,13 @@ use Rattle.ob_tree.specs.ProgramPlaces.{PlacedProgram, place_program}
 use Rattle.ob_tree.specs.ProgramPaths.{height_program}
 use Rattle.ob_tree.specs.Fronts.{kinds, lines, within, any}
 use Rattle.ob_tree.specs.ProgramFronts.{BeginsProgram, IsProgram, FrontProgram, DeepFrontProgram, IsTreeOf}
-use Rattle.ob_tree.specs.Answers.{Verdict, Whole}
+use Rattle.ob_tree.specs.Verdicts.{Verdict, Whole}
 use Rattle.ob_tree.proofs.OneProgram.{one-program}
-use Rattle.ob_tree.proofs.ProgramStates.{State, Items}
-use Rattle.ob_tree.proofs.ProgramMachine.{step, finish}
-use Rattle.ob_tree.proofs.Readings.{read, verdict, right, all-kinds}
-use Rattle.ob_parser.specs.Loads.{load}
+use Rattle.ob_tree.specs.ProgramStates.{State, Items}
+use Rattle.ob_tree.specs.ProgramMachine.{shift, finish}
+use Rattle.ob_tree.specs.Readings.{read, verdict}
+use Rattle.ob_tree.proofs.RightReadings.{right, all-kinds}
+use Rattle.ob_parser.specs.DeepestPaths.{deepest_path}
 use Rattle.ob_parser.specs.Answer.{Answer, IsFirst, IsAnswer, IsProgramVerdict}
 use Rattle.ob_parser.proofs.Most.{program-most}
 use Rattle.ob_parser.proofs.Exact.{machine, exact-program, goes-on, some-tree, finish-whole}
@@ -25,20 +26,20 @@ use Rattle.ob_parser.proofs.Exact.{machine, exact-program, goes-on, some-tree, f
 -- the right answer in the parser's terms, by the right verdict on how far programs go on
 module _ (ts : List Token) (all : All (λ t. IsOfSource t.kind) ts) where
   -- the machine's verdict is right
-  pub first-right : IsProgramVerdict ts (verdict finish (read (λ q k s. step (here (lines ts) q) k s) load 0 0 (map (λ t. t.kind) ts) (Items [])))
+  pub first-right : IsProgramVerdict ts (verdict finish (read (λ q k s. shift (here (lines ts) q) k s) deepest_path 0 0 (map (λ t. t.kind) ts) (Items [])))
   first-right =
-      right (λ q k s. step (here (lines ts) q) k s) load finish BeginsProgram IsProgram (PlacedProgram (lines ts)) 0 0 (machine (lines ts)) (exact-program (lines ts)) ts all ts 0 (Items []) refl (omega arith) (omega arith) refl (omega arith)
+      right (λ q k s. shift (here (lines ts) q) k s) deepest_path finish BeginsProgram IsProgram (PlacedProgram (lines ts)) 0 0 (machine (lines ts)) (exact-program (lines ts)) ts all ts 0 (Items []) refl (omega arith) (omega arith) refl (omega arith)
       (λ j a b. absurd (omega arith))
 
   -- where programs begin with all tokens, the machine holds what keeps the limit behind them
-  at-end : (n : ℕ) → n ≡ length ts → ((j : ℕ) → 0 ≤ j → j < length ts → FrontProgram ts j) → (s : State) × (machine (lines ts) (kinds ts 0 n) ≡ Some s) × (0 + load s ≤ 256)
+  at-end : (n : ℕ) → n ≡ length ts → ((j : ℕ) → 0 ≤ j → j < length ts → FrontProgram ts j) → (s : State) × (machine (lines ts) (kinds ts 0 n) ≡ Some s) × (0 + deepest_path s ≤ 256)
   at-end zero e f = (Items [], refl, omega arith)
   at-end (suc n) e f = go (f n (omega arith) (omega arith))
     where
-      go : FrontProgram ts n → (s : State) × (machine (lines ts) (kinds ts 0 (suc n)) ≡ Some s) × (0 + load s ≤ 256)
+      go : FrontProgram ts n → (s : State) × (machine (lines ts) (kinds ts 0 (suc n)) ≡ Some s) × (0 + deepest_path s ≤ 256)
       go (inl b) =
           let w : n + 1 ≡ suc n = omega arith in
-          subst (λ i. (s : State) × (machine (lines ts) (kinds ts 0 i) ≡ Some s) × (0 + load s ≤ 256)) w (goes-on (lines ts) (kinds ts 0 (n + 1)) b.1)
+          subst (λ i. (s : State) × (machine (lines ts) (kinds ts 0 i) ≡ Some s) × (0 + deepest_path s ≤ 256)) w (goes-on (lines ts) (kinds ts 0 (n + 1)) b.1)
       go (inr b) = absurd (omega (arith, b.0, e))
 
   -- then no program that they are is too deep
@@ -88,7 +89,7 @@ module _ (ts : List Token) (all : All (λ t. IsOfSource t.kind) ts) where
   answer-of (Verdict.TooDeep i) v = (Answer.TooDeep i, too-deep i v)
 
   pub some-answer : (answer : Answer) × IsAnswer ts answer
-  some-answer = answer-of (verdict finish (read (λ q k s. step (here (lines ts) q) k s) load 0 0 (map (λ t. t.kind) ts) (Items []))) first-right
+  some-answer = answer-of (verdict finish (read (λ q k s. shift (here (lines ts) q) k s) deepest_path 0 0 (map (λ t. t.kind) ts) (Items []))) first-right
 
 -- only one answer is right
 module _ (ts : List Token) where

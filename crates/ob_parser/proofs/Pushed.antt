@@ -23,15 +23,15 @@ use Rattle.ob_tree.specs.Programs.{BlockTrees}
 use Rattle.ob_tree.specs.ExpressionView.{node_tree, obj_tree, obj_trees, held_init, held_length, dim_row, dim_trees, init_tree, init_row}
 use Rattle.ob_tree.specs.ProgramValid.{is_void_alone}
 use Rattle.ob_tree.specs.ProgramView.{stmt_node_tree, local_tree, param_tree, file_tree}
-use Rattle.ob_tree.proofs.ProgramStates as plain
-use Rattle.ob_tree.proofs.Frames.{add_obj}
-use Rattle.ob_tree.proofs.ProgramParts.{add_local, add_init, are_all_named, has_dims, has_lengths, has_items, is_first, is_tagged, objects}
+use Rattle.ob_tree.specs.ProgramStates as plain
+use Rattle.ob_tree.specs.ExprStates.{add_obj}
+use Rattle.ob_tree.specs.ProgramParts.{add_local, add_init, are_all_named, has_dims, has_lengths, has_items, is_first, is_tagged, objects}
 use Rattle.ob_exprs.proofs.Views.{objs_pushed}
 use Rattle.ob_parser.specs.declared.state.State.{State}
-use Rattle.ob_parser.specs.Steps.{Leads, Reaches, stepped}
+use Rattle.ob_parser.specs.Shifts.{Leads, Reaches, shifted}
 use Rattle.ob_parser.specs.View.{block_trees, init_trees}
 
-pub reaches_leads : (m : Mark) (k : TokenKind) (o : Option State) (next : Option plain.State) → Reaches o next → Leads m k (stepped o) next
+pub reaches_leads : (m : Mark) (k : TokenKind) (o : Option State) (next : Option plain.State) → Reaches o next → Leads m k (shifted o) next
 reaches_leads m k None next h = h
 reaches_leads m k (Some s) next h = h
 

@@ -16,19 +16,19 @@ use Rattle.ob_tree.specs.Places.{here, place_spec, place_dims, width_spec, width
 use Rattle.ob_tree.specs.ProgramPlaces.{width_static, width_file, place_file}
 use Rattle.ob_tree.specs.Paths.{node_with, begun_spec, begun_dims, begun_init, begun_objs, height_spec, height_dims, height_objs}
 use Rattle.ob_tree.specs.ProgramPaths.{begun_params, begun_function, begun_file, begun_files, begun_local, height_file, height_files}
-use Rattle.ob_tree.proofs.Machine as reader
+use Rattle.ob_tree.specs.ExprMachine as reader
 use Rattle.ob_tree.proofs.FirstTokens.{first-more, first-spec, BeginsSpec}
-use Rattle.ob_tree.proofs.SpecSteps.{length-stars}
-use Rattle.ob_tree.proofs.ProgramStates.{Frame, Owner, Outer, Inner, Start, Heading, Declaration, OfName, Target, ForDeclaration, State, Specifying, Declare, Dims, Init, Params, ForOpen}
-use Rattle.ob_tree.proofs.ProgramParts.{add_name, objects, local_of, item_of}
-use Rattle.ob_tree.proofs.ProgramMachine.{begin_declaration, end_declaration, step, run}
+use Rattle.ob_tree.proofs.SpecShifts.{length-stars}
+use Rattle.ob_tree.specs.ProgramStates.{PendingStmt, Scope, FileScope, BlockScope, ForScope, Heading, Declaration, OfName, InitDeclarator, ForDeclaration, State, Specifying, Declare, Dims, Init, Params, ForOpen}
+use Rattle.ob_tree.specs.ProgramParts.{add_name, objects, local_of, item_of}
+use Rattle.ob_tree.specs.ProgramMachine.{begin_declaration, end_declaration, shift, run}
 use Rattle.ob_tree.proofs.ProgramRuns.{restart, read-spec, all-stars}
 use Rattle.ob_tree.proofs.ProgramInits.{read-open-dims}
-use Rattle.ob_tree.proofs.ProgramNames.{IsOuter, MayDeclare, named, outer-parameters, behind, read-file, name-ends, StartsName, file-first, name-starts, tag-declared}
+use Rattle.ob_tree.proofs.ProgramNames.{IsFileScope, MayDeclare, named, outer-parameters, behind, read-file, name-ends, StartsName, file-first, name-starts, tag-declared}
 use Rattle.ob_tree.proofs.ProgramDeclarations.{BeginsDeclaration, spec-declares, begin-spec, read-head, files, all-files, valid-files, may-declare, for-starts}
 use Rattle.ob_exprs.proofs.Begun.{full-spec}
 use Rattle.ob_exprs.proofs.Heights.{spec-place, dims-place}
-use Rattle.ob_parser.specs.Loads.{owner_depth, owner_load, depth_in, declaration_load, load}
+use Rattle.ob_parser.specs.DeepestPaths.{scope_depth, scope_path, depth_in, declaration_path, deepest_path}
 use Rattle.ob_parser.proofs.Adding.{item-height, local-height, name-height}
 use Rattle.ob_parser.proofs.Complete.{begun_declaration}
 use Rattle.ob_parser.proofs.Full.{node-some, full-open-dims, full-file, file-place}
@@ -41,18 +41,18 @@ objects-height [] = omega arith
 objects-height (FileTree.Object o ∷ xs) = omega (arith, objects-height xs)
 objects-height (FileTree.Function n name a ps ∷ xs) = omega (arith, objects-height xs)
 
-pub end-load : (m : ℕ) (o : Owner) (f n : ℕ) (fixed : Bool) (s : SpecTree) (xs : List FileTree)
-    → declaration_load (record { heading = record { owner = o; first = f; line = n; fixed = fixed }; spec = s; names = xs }) ≤ m
-    → load (end_declaration (record { heading = record { owner = o; first = f; line = n; fixed = fixed }; spec = s; names = xs })) ≤ m
-end-load m (Outer items) f n fixed s xs h =
-    omega (arith, h, item-height items (item_of (record { heading = record { owner = Outer items; first = f; line = n; fixed = fixed }; spec = s; names = xs })))
-end-load m (Inner g i items fs) f n fixed s xs h =
-    omega (arith, h, local-height items (local_of (record { heading = record { owner = Inner g i items fs; first = f; line = n; fixed = fixed }; spec = s; names = xs })), objects-height xs)
-end-load m (Start g i fs) f n fixed s xs h = omega (arith, h, objects-height xs)
+pub end-path : (m : ℕ) (o : Scope) (f n : ℕ) (fixed : Bool) (s : SpecTree) (xs : List FileTree)
+    → declaration_path (record { heading = record { scope = o; first = f; line = n; fixed = fixed }; spec = s; names = xs }) ≤ m
+    → deepest_path (end_declaration (record { heading = record { scope = o; first = f; line = n; fixed = fixed }; spec = s; names = xs })) ≤ m
+end-path m (FileScope items) f n fixed s xs h =
+    omega (arith, h, item-height items (item_of (record { heading = record { scope = FileScope items; first = f; line = n; fixed = fixed }; spec = s; names = xs })))
+end-path m (BlockScope g i items fs) f n fixed s xs h =
+    omega (arith, h, local-height items (local_of (record { heading = record { scope = BlockScope g i items fs; first = f; line = n; fixed = fixed }; spec = s; names = xs })), objects-height xs)
+end-path m (ForScope g i fs) f n fixed s xs h = omega (arith, h, objects-height xs)
 
 module _ (lines : ℕ → ℕ) (m : ℕ) where
   -- the stars and the name of a declarator, and what stands behind them
-  named-reach : (d : Declaration) (n : ℕ) (name : List ℕ) (ys : List TokenKind) (k p : ℕ) → declaration_load d ≤ m → depth_in d + min n k ≤ m
+  named-reach : (d : Declaration) (n : ℕ) (name : List ℕ) (ys : List TokenKind) (k p : ℕ) → declaration_path d ≤ m → depth_in d + min n k ≤ m
       → ((j : ℕ) → k ≡ n + 1 + j → Within m (run lines (p + n + 1) (take j ys) (Some (Dims (OfName (named d n name (p + n))) DimTrees.NoDims))))
       → Within m (run lines p (take k (stars n ++ kind.Name name ∷ ys)) (Some (Declare d 0)))
   named-reach d n name ys k p l a next =
@@ -62,17 +62,17 @@ module _ (lines : ℕ → ℕ) (m : ℕ) where
       w-token lines m (kind.Name name) ys (suc j) (p + n) (p + n + 1) (Declare d n) (Dims (OfName (named d n name (p + n))) DimTrees.NoDims) (λ e. (let g : ⊥ = omega arith in absurd g)) refl refl
       (λ i e. next i (omega (arith, h, length-stars n))))
 
-  pub reach-function : (d : Declaration) (n : ℕ) (name : List ℕ) (ps : ParamsTree) (k p : ℕ) → ValidParams ps → IsOuter d.heading.owner → declaration_load d ≤ m → depth_in d + begun_function n ps k ≤ m
+  pub reach-function : (d : Declaration) (n : ℕ) (name : List ℕ) (ps : ParamsTree) (k p : ℕ) → ValidParams ps → IsFileScope d.heading.scope → declaration_path d ≤ m → depth_in d + begun_function n ps k ≤ m
       → Within m (run lines p (take k (spell_function n name ps)) (Some (Declare d 0)))
   reach-function d n name ps k p v o l a =
       let x = named d n name (p + n) in
       named-reach d n name (kind.Sign sign.OpenParen ∷ (spell_params ps ++ kind.Sign sign.CloseParen ∷ [])) k p l (omega (arith, a))
       (λ j h.
       w-token lines m (kind.Sign sign.OpenParen) (spell_params ps ++ kind.Sign sign.CloseParen ∷ []) j (p + n + 1) (p + n + 2) (Dims (OfName x) DimTrees.NoDims) (Params (record { function = x; params = [] }))
-      (λ e. omega (arith, a)) (outer-parameters d.heading.owner x o) (omega arith)
+      (λ e. omega (arith, a)) (outer-parameters d.heading.scope x o) (omega arith)
       (λ i e. (let b : k - (n + 2) ≡ i = omega arith in reach-params lines m x ps i (p + n + 2) v (omega (arith, a)) (omega (arith, a, ap (begun_params ps) b)))))
 
-  reach-file : (d : Declaration) (x : FileTree) (k p : ℕ) → ValidFile x → MayDeclare d.heading.owner x → declaration_load d ≤ m → depth_in d + begun_file x k ≤ m
+  reach-file : (d : Declaration) (x : FileTree) (k p : ℕ) → ValidFile x → MayDeclare d.heading.scope x → declaration_path d ≤ m → depth_in d + begun_file x k ≤ m
       → Within m (run lines p (take k (spell_file x)) (Some (Declare d 0)))
   reach-file d (FileTree.Function n name a ps) k p v o l b = reach-function d n name ps k p v.1 o l b
   reach-file d (FileTree.Object (ObjTree.Bare n name a ds)) k p v o l b =
@@ -83,7 +83,7 @@ module _ (lines : ℕ → ℕ) (m : ℕ) where
       let x = named d n name (p + n) in
       let h = OfName x in
       let ds' = place_dims lines (p + n + 1) ds in
-      let t : Target = record { declarator = x; dims = ds' } in
+      let t : InitDeclarator = record { declarator = x; dims = ds' } in
       let q = p + n + 1 + width_dims ds in
       named-reach d n name (spell_dims ds ++ kind.Sign sign.Assign ∷ spell_init i) k p l (omega (arith, b))
       (λ j g.
@@ -101,8 +101,8 @@ module _ (lines : ℕ → ℕ) (m : ℕ) where
       ))
 
   -- declarators up to the semicolon
-  reach-files : (x : FileTree) (xs : List FileTree) (d : Declaration) (k p : ℕ) → ValidFile x → AllByRecursion ValidFile xs → MayDeclare d.heading.owner x → AllByRecursion (MayDeclare d.heading.owner) xs
-      → declaration_load d ≤ m → depth_in d + begun_files (x ∷ xs) k ≤ m
+  reach-files : (x : FileTree) (xs : List FileTree) (d : Declaration) (k p : ℕ) → ValidFile x → AllByRecursion ValidFile xs → MayDeclare d.heading.scope x → AllByRecursion (MayDeclare d.heading.scope) xs
+      → declaration_path d ≤ m → depth_in d + begun_files (x ∷ xs) k ≤ m
       → Within m (run lines p (take k (listed spell_file (x ∷ xs) ++ kind.Sign sign.Semi ∷ [])) (Some (Declare d 0)))
   reach-files x [] d k p v vs o os l b =
       let x' = place_file lines p x in
@@ -113,7 +113,7 @@ module _ (lines : ℕ → ℕ) (m : ℕ) where
       (λ j w.
       (
       let f : begun_file x k ≡ height_file x = full-file x k v (omega arith) in
-      let e : load (end_declaration (add_name d x')) ≤ m = end-load m h.owner h.first h.line h.fixed d.spec (d.names ++ x' ∷ []) (omega (arith, b, f, name-height d.names x', file-place lines p x)) in
+      let e : deepest_path (end_declaration (add_name d x')) ≤ m = end-path m h.scope h.first h.line h.fixed d.spec (d.names ++ x' ∷ []) (omega (arith, b, f, name-height d.names x', file-place lines p x)) in
       w-token lines m (kind.Sign sign.Semi) [] (suc j) q (q + 1) (behind d x') (end_declaration (add_name d x')) (λ z. (let u : ⊥ = omega arith in absurd u)) (name-ends lines d x p (here lines q) (kind.Sign sign.Semi) v tt) refl
       (λ i z. w-nothing lines m i (q + 1) (end_declaration (add_name d x')) e)
       ))
@@ -136,15 +136,15 @@ module _ (lines : ℕ → ℕ) (m : ℕ) where
       )
 
   -- all declarators behind a specifier that was placed at r
-  pub reach-names : (h : Heading) (s : SpecTree) (r : ℕ) (xs : List FileTree) (k p : ℕ) → ValidFiles s xs → AllByRecursion (MayDeclare h.owner) xs
-      → declaration_load (record { heading = h; spec = place_spec lines r s; names = [] }) ≤ m → owner_depth h.owner + 1 + begun_files xs k ≤ m
+  pub reach-names : (h : Heading) (s : SpecTree) (r : ℕ) (xs : List FileTree) (k p : ℕ) → ValidFiles s xs → AllByRecursion (MayDeclare h.scope) xs
+      → declaration_path (record { heading = h; spec = place_spec lines r s; names = [] }) ≤ m → scope_depth h.scope + 1 + begun_files xs k ≤ m
       → Within m (run lines p (take k (listed spell_file xs ++ kind.Sign sign.Semi ∷ [])) (Some (Specifying (ForDeclaration h) (reader.AfterSpec (place_spec lines r s) []))))
   reach-names h s r [] k p v o l b =
       let s' = place_spec lines r s in
       let d : Declaration = record { heading = h; spec = s'; names = [] } in
       w-token lines m (kind.Sign sign.Semi) [] k p (p + 1) (Specifying (ForDeclaration h) (reader.AfterSpec s' [])) (end_declaration d) (λ z. omega (arith, l))
       (ap (λ c. cond c (Some (end_declaration d)) None) (tag-declared lines r s v)) refl
-      (λ j z. w-nothing lines m j (p + 1) (end_declaration d) (end-load m h.owner h.first h.line h.fixed s' [] l))
+      (λ j z. w-nothing lines m j (p + 1) (end_declaration d) (end-path m h.scope h.first h.line h.fixed s' [] l))
   reach-names h s r (x ∷ xs) k p v o l b =
       let s' = place_spec lines r s in
       let d : Declaration = record { heading = h; spec = s'; names = [] } in
@@ -153,12 +153,12 @@ module _ (lines : ℕ → ℕ) (m : ℕ) where
       (λ z. omega (arith, l)) (λ j z. reach-files x xs d (suc j) p v.0 v.1 o.0 o.1 l (omega (arith, b, ap (begun_files (x ∷ xs)) z)))
 
   -- `static` or not, and a specifier
-  pub reach-head : (o : Owner) (fixed : Bool) (spec : SpecTree) (s : State) (k p : ℕ) → ValidSpec spec
-      → ((c : TokenKind) → BeginsDeclaration c → step (here lines p) c s ≡ begin_declaration (here lines p) c o) → (k ≡ 0 → load s ≤ m) → owner_load o ≤ m
-      → owner_depth o + node_with k (begun_spec spec (k - width_static fixed)) ≤ m
+  pub reach-head : (o : Scope) (fixed : Bool) (spec : SpecTree) (s : State) (k p : ℕ) → ValidSpec spec
+      → ((c : TokenKind) → BeginsDeclaration c → shift (here lines p) c s ≡ begin_declaration (here lines p) c o) → (k ≡ 0 → deepest_path s ≤ m) → scope_path o ≤ m
+      → scope_depth o + node_with k (begun_spec spec (k - width_static fixed)) ≤ m
       → Within m (run lines p (take k (spell_static fixed ++ spell_spec spec)) (Some s))
   reach-head o false spec s k p v same z l b =
-      let h : Heading = record { owner = o; first = p; line = lines p; fixed = false } in
+      let h : Heading = record { scope = o; first = p; line = lines p; fixed = false } in
       w-restart lines m (Specifying (ForDeclaration h) (reader.Specifier [])) BeginsSpec (spell_spec spec) k p s (first-spec spec v)
       (λ c f. same c (spec-declares c f) ∙ begin-spec (here lines p) c o f) z
       (λ j e.
@@ -168,7 +168,7 @@ module _ (lines : ℕ → ℕ) (m : ℕ) where
       reach-specifier lines m (ForDeclaration h) spec (suc j) p v (omega (arith, b, n)) (omega (arith, b, n, ap (begun_spec spec) g))
       ))
   reach-head o true spec s k p v same z l b =
-      let h : Heading = record { owner = o; first = p; line = lines p; fixed = true } in
+      let h : Heading = record { scope = o; first = p; line = lines p; fixed = true } in
       w-token lines m (kind.Word word.Static) (spell_spec spec) k p (p + 1) s (Specifying (ForDeclaration h) (reader.Specifier [])) z (same (kind.Word word.Static) refl) refl
       (λ j e.
       (
@@ -182,12 +182,12 @@ module _ (lines : ℕ → ℕ) (m : ℕ) where
   head-less fixed s xs (suc k) = omega arith
 
   -- a declaration
-  pub reach-declaration : (o : Owner) (fixed : Bool) (spec : SpecTree) (xs : List FileTree) (s : State) (k p : ℕ) → ValidSpec spec → ValidFiles spec xs → AllByRecursion (MayDeclare o) xs
-      → ((c : TokenKind) → BeginsDeclaration c → step (here lines p) c s ≡ begin_declaration (here lines p) c o) → (k ≡ 0 → load s ≤ m) → owner_load o ≤ m
-      → owner_depth o + begun_declaration fixed spec xs k ≤ m
+  pub reach-declaration : (o : Scope) (fixed : Bool) (spec : SpecTree) (xs : List FileTree) (s : State) (k p : ℕ) → ValidSpec spec → ValidFiles spec xs → AllByRecursion (MayDeclare o) xs
+      → ((c : TokenKind) → BeginsDeclaration c → shift (here lines p) c s ≡ begin_declaration (here lines p) c o) → (k ≡ 0 → deepest_path s ≤ m) → scope_path o ≤ m
+      → scope_depth o + begun_declaration fixed spec xs k ≤ m
       → Within m (run lines p (take k ((spell_static fixed ++ spell_spec spec) ++ (listed spell_file xs ++ kind.Sign sign.Semi ∷ []))) (Some s))
   reach-declaration o fixed spec xs s k p v w u same z l b =
-      let h : Heading = record { owner = o; first = p; line = lines p; fixed = fixed } in
+      let h : Heading = record { scope = o; first = p; line = lines p; fixed = fixed } in
       let a = p + width_static fixed in
       let q = a + width_spec spec in
       let t = Specifying (ForDeclaration h) (reader.AfterSpec (place_spec lines a spec) []) in
@@ -216,19 +216,19 @@ local-spelled l =
     ∙ append_assoc (spell_static l.fixed) (spell_spec l.spec) (spell_objs l.names ++ kind.Sign sign.Semi ∷ [])
 
 module _ (lines : ℕ → ℕ) (m : ℕ) where
-  pub reach-local : (o : Owner) (l : LocalTree) (s : State) (k p : ℕ) → ValidLocal l
-      → ((c : TokenKind) → BeginsDeclaration c → step (here lines p) c s ≡ begin_declaration (here lines p) c o) → (k ≡ 0 → load s ≤ m) → owner_load o ≤ m
-      → owner_depth o + begun_local l k ≤ m → Within m (run lines p (take k (spell_local l)) (Some s))
+  pub reach-local : (o : Scope) (l : LocalTree) (s : State) (k p : ℕ) → ValidLocal l
+      → ((c : TokenKind) → BeginsDeclaration c → shift (here lines p) c s ≡ begin_declaration (here lines p) c o) → (k ≡ 0 → deepest_path s ≤ m) → scope_path o ≤ m
+      → scope_depth o + begun_local l k ≤ m → Within m (run lines p (take k (spell_local l)) (Some s))
   reach-local o l s k p v same z a b =
       w-spelled lines m k p ((spell_static l.fixed ++ spell_spec l.spec) ++ (listed spell_file (files l.names) ++ kind.Sign sign.Semi ∷ [])) (spell_local l) s (local-spelled l)
       (reach-declaration lines m o l.fixed l.spec (files l.names) s k p v.0 (valid-files l.spec l.names v.1) (may-declare o l.names) same z a (omega (arith, b, local-begun l k)))
 
   -- a declaration that stands first in a `for`
-  pub reach-for-local : (f n : ℕ) (fs : List Frame) (l : LocalTree) (k p : ℕ) → l.fixed ≡ false → ValidLocal l → owner_load (Start f n fs) ≤ m
-      → owner_depth (Start f n fs) + begun_local l k ≤ m → Within m (run lines p (take k (spell_local l)) (Some (ForOpen f n fs)))
+  pub reach-for-local : (f n : ℕ) (fs : List PendingStmt) (l : LocalTree) (k p : ℕ) → l.fixed ≡ false → ValidLocal l → scope_path (ForScope f n fs) ≤ m
+      → scope_depth (ForScope f n fs) + begun_local l k ≤ m → Within m (run lines p (take k (spell_local l)) (Some (ForOpen f n fs)))
   reach-for-local f n fs l k p e v a b =
-      let o = Start f n fs in
-      let h : Heading = record { owner = o; first = p; line = lines p; fixed = false } in
+      let o = ForScope f n fs in
+      let h : Heading = record { scope = o; first = p; line = lines p; fixed = false } in
       let start = Specifying (ForDeclaration h) (reader.Specifier []) in
       let rest = listed spell_file (files l.names) ++ kind.Sign sign.Semi ∷ [] in
       let spelled : spell_spec l.spec ++ rest ≡ spell_local l = ap (λ c. (spell_static c ++ spell_spec l.spec) ++ rest) (sym e) ∙ local-spelled l in

@@ -14,19 +14,19 @@ use Rattle.ob_tree.specs.Places.{here, place, width}
 use Rattle.ob_tree.specs.ProgramPlaces.{width_option, width_local, width_start, width_stmt, place_option, place_local, place_start, place_stmt}
 use Rattle.ob_tree.specs.Paths.{begun, height}
 use Rattle.ob_tree.specs.ProgramPaths.{begun_option, begun_local, begun_start, begun_stmt, begun_block, height_option, height_local, height_start, height_stmt}
-use Rattle.ob_tree.proofs.Machine as reader
+use Rattle.ob_tree.specs.ExprMachine as reader
 use Rattle.ob_tree.proofs.PlaceKeeps.{valid-place}
-use Rattle.ob_tree.proofs.Settled.{settled}
-use Rattle.ob_tree.proofs.ProgramStates.{Frame, InBlock, InIf, InElse, InWhile, InDo, InFor, Inner, Use, Statement, IfTest, WhileTest, DoTest, ForStart, ForTest, ForNext, Return, State, Optional, Reading, Begin, Opening, ForWord, ForOpen, Semi, Done}
-use Rattle.ob_tree.proofs.ProgramParts.{add_statement, add_local}
-use Rattle.ob_tree.proofs.ProgramMachine.{use_level, used, statement, block_item, step, run}
+use Rattle.ob_tree.proofs.Unreduced.{state_behind}
+use Rattle.ob_tree.specs.ProgramStates.{PendingStmt, InBlock, InIf, InElse, InWhile, InDo, InFor, BlockScope, ExprContext, Statement, IfTest, WhileTest, DoTest, ForStart, ForTest, ForNext, Return, State, Optional, Reading, Begin, Opening, ForWord, ForOpen, Semi, Done}
+use Rattle.ob_tree.specs.ProgramParts.{add_statement, add_local}
+use Rattle.ob_tree.specs.ProgramMachine.{context_level, used, statement, block_item, shift, run}
 use Rattle.ob_tree.proofs.ProgramRuns.{restart, read-expr, expr-ends, StartsExpr, first-expr}
 use Rattle.ob_tree.proofs.ProgramInits.{any-level, after_option, read-option, option-ends}
 use Rattle.ob_tree.proofs.ProgramDeclarations.{BeginsDeclaration, read-local}
 use Rattle.ob_tree.proofs.ProgramThrough.{after_stmt, NotElse, stmt-ends, else-follows, StartsStmt, expr-starts, expr-statement, for-expr, block-statement, block-declaration, declares-not-else, starts-not-else, read-start, read-stmt}
 use Rattle.ob_exprs.proofs.Begun.{begun-full}
 use Rattle.ob_exprs.proofs.Heights.{height-place}
-use Rattle.ob_parser.specs.Loads.{load_stack, use_depth, use_load, load}
+use Rattle.ob_parser.specs.DeepestPaths.{deepest_stack_path, context_depth, context_path, deepest_path}
 use Rattle.ob_parser.proofs.Adding.{statement-height, local-height}
 use Rattle.ob_parser.proofs.Full.{node-some, full-option, full-local, full-start, full-stmt, option-place, local-place, start-place, stmt-place}
 use Rattle.ob_parser.proofs.Climbs.{Within, w-nothing, w-token, w-part, w-spelled, w-restart, reach-expr, reach-option}
@@ -38,38 +38,38 @@ none-zero j h = let f : ⊥ = omega arith in absurd f
 
 module _ (lines : ℕ → ℕ) (m : ℕ) where
   -- a test in its parentheses, and what follows it
-  reach-test : (u : Use) (c : ExprTree) (ys : List TokenKind) (k p a b : ℕ) (t : State) → IsOf (use_level u) c → used (kind.Sign sign.CloseParen) u (Some (place lines a c)) ≡ Some t
-      → a ≡ p + 1 → b ≡ a + width c + 1 → use_load u ≤ m → use_depth u + begun c (k - 1) ≤ m
+  reach-test : (u : ExprContext) (c : ExprTree) (ys : List TokenKind) (k p a b : ℕ) (t : State) → IsOf (context_level u) c → used (kind.Sign sign.CloseParen) u (Some (place lines a c)) ≡ Some t
+      → a ≡ p + 1 → b ≡ a + width c + 1 → context_path u ≤ m → context_depth u + begun c (k - 1) ≤ m
       → ((j : ℕ) → k ≡ width c + 2 + j → Within m (run lines b (take j ys) (Some t)))
       → Within m (run lines p (take k (kind.Sign sign.OpenParen ∷ (spell c ++ kind.Sign sign.CloseParen ∷ ys))) (Some (Opening u)))
   reach-test u c ys k p a b t v e h g l d next =
-      let start = Reading u (reader.Operand []) in
+      let start = Reading u (reader.BeforeOperand []) in
       w-token lines m (kind.Sign sign.OpenParen) (spell c ++ kind.Sign sign.CloseParen ∷ ys) k p a (Opening u) start (λ z. l) refl h
       (λ j z.
-      w-part lines m (spell c) (kind.Sign sign.CloseParen ∷ ys) j a (a + width c) start (Reading u (settled (place lines a c) [])) (read-expr lines u c a v)
+      w-part lines m (spell c) (kind.Sign sign.CloseParen ∷ ys) j a (a + width c) start (Reading u (state_behind (place lines a c) [])) (read-expr lines u c a v)
       (λ w. (let f : k - 1 ≡ j = omega arith in reach-expr lines m u c j a v l (omega (arith, d, ap (begun c) f))))
       (λ i w.
-      w-token lines m (kind.Sign sign.CloseParen) ys (suc i) (a + width c) b (Reading u (settled (place lines a c) [])) t (none-zero i)
+      w-token lines m (kind.Sign sign.CloseParen) ys (suc i) (a + width c) b (Reading u (state_behind (place lines a c) [])) t (none-zero i)
       (expr-ends u (here lines (a + width c)) (kind.Sign sign.CloseParen) (place lines a c) (valid-place lines a c v.0) tt ∙ e) g
       (λ r x. next r (omega arith))))
 
   -- an expression and its semicolon, from a state that begins one
-  reach-semi : (u : Use) (e : ExprTree) (s t : State) (k p : ℕ) → IsOf (use_level u) e → used (kind.Sign sign.Semi) u (Some (place lines p e)) ≡ Some t
-      → ((c : TokenKind) → StartsExpr c → step (here lines p) c s ≡ step (here lines p) c (Reading u (reader.Operand [])))
-      → (k ≡ 0 → load s ≤ m) → (0 < k → use_load u ≤ m) → (0 < k → use_depth u + begun e k ≤ m) → (width e < k → load t ≤ m)
+  reach-semi : (u : ExprContext) (e : ExprTree) (s t : State) (k p : ℕ) → IsOf (context_level u) e → used (kind.Sign sign.Semi) u (Some (place lines p e)) ≡ Some t
+      → ((c : TokenKind) → StartsExpr c → shift (here lines p) c s ≡ shift (here lines p) c (Reading u (reader.BeforeOperand [])))
+      → (k ≡ 0 → deepest_path s ≤ m) → (0 < k → context_path u ≤ m) → (0 < k → context_depth u + begun e k ≤ m) → (width e < k → deepest_path t ≤ m)
       → Within m (run lines p (take k (spell e ++ kind.Sign sign.Semi ∷ [])) (Some s))
   reach-semi u e s t k p v g same z l d f =
-      let start = Reading u (reader.Operand []) in
-      w-part lines m (spell e) (kind.Sign sign.Semi ∷ []) k p (p + width e) s (Reading u (settled (place lines p e) [])) (restart start StartsExpr (first-expr e v.0) same (read-expr lines u e p v))
+      let start = Reading u (reader.BeforeOperand []) in
+      w-part lines m (spell e) (kind.Sign sign.Semi ∷ []) k p (p + width e) s (Reading u (state_behind (place lines p e) [])) (restart start StartsExpr (first-expr e v.0) same (read-expr lines u e p v))
       (λ w. w-restart lines m start StartsExpr (spell e) k p s (first-expr e v.0) same z
       (λ j x. reach-expr lines m u e (suc j) p v (l (omega arith)) (omega (arith, d (omega arith), ap (begun e) x))))
       (λ j w.
-      w-token lines m (kind.Sign sign.Semi) [] (suc j) (p + width e) (p + width e + 1) (Reading u (settled (place lines p e) [])) t (none-zero j)
+      w-token lines m (kind.Sign sign.Semi) [] (suc j) (p + width e) (p + width e + 1) (Reading u (state_behind (place lines p e) [])) t (none-zero j)
       (expr-ends u (here lines (p + width e)) (kind.Sign sign.Semi) (place lines p e) (valid-place lines p e v.0) tt ∙ g) refl
       (λ i x. w-nothing lines m i (p + width e + 1) t (f (omega arith))))
 
   -- the first part of a `for`, with its semicolon
-  reach-start : (start : StartTree) (f n : ℕ) (fs : List Frame) (k p : ℕ) → ValidStart start → load_stack fs ≤ m → length fs + 1 + begun_start start k ≤ m
+  reach-start : (start : StartTree) (f n : ℕ) (fs : List PendingStmt) (k p : ℕ) → ValidStart start → deepest_stack_path fs ≤ m → length fs + 1 + begun_start start k ≤ m
       → Within m (run lines p (take k (spell_start start)) (Some (ForOpen f n fs)))
   reach-start (StartTree.Expr None) f n fs k p v l d =
       let t = Optional (ForTest f n (StartTree.Expr None) fs) in
@@ -80,8 +80,8 @@ module _ (lines : ℕ → ℕ) (m : ℕ) where
   reach-start (StartTree.Local y) f n fs k p v l d = reach-for-local lines m f n fs y k p v.0 v.1 (omega arith) d
 
   mutual
-    pub reach-stmt : (s : StmtTree) (fs : List Frame) (st : State) (k p : ℕ) → ValidStmt s → ((c : TokenKind) → StartsStmt c → step (here lines p) c st ≡ statement (here lines p) c fs)
-        → (k ≡ 0 → load st ≤ m) → load_stack fs ≤ m → length fs + begun_stmt s k ≤ m → Within m (run lines p (take k (spell_stmt s)) (Some st))
+    pub reach-stmt : (s : StmtTree) (fs : List PendingStmt) (st : State) (k p : ℕ) → ValidStmt s → ((c : TokenKind) → StartsStmt c → shift (here lines p) c st ≡ statement (here lines p) c fs)
+        → (k ≡ 0 → deepest_path st ≤ m) → deepest_stack_path fs ≤ m → length fs + begun_stmt s k ≤ m → Within m (run lines p (take k (spell_stmt s)) (Some st))
     reach-stmt (StmtTree.Block f n items) fs st k p v same z l d =
         let gs = InBlock p (lines p) BlockTrees.NoItems ∷ fs in
         w-token lines m (kind.Sign sign.OpenBrace) (spell_block items ++ kind.Sign sign.CloseBrace ∷ []) k p (p + 1) st (Begin gs) z (same (kind.Sign sign.OpenBrace) tt) refl
@@ -115,7 +115,7 @@ module _ (lines : ℕ → ℕ) (m : ℕ) where
         (
         let h : k - (width c + 3) ≡ i = omega arith in
         let b : begun c (k - 2) ≡ height c = begun-full c (k - 2) v.0 (omega arith) in
-        let y : load_stack gs ≤ m = omega (arith, n1, b, height-place lines (p + 2) c) in
+        let y : deepest_stack_path gs ≤ m = omega (arith, n1, b, height-place lines (p + 2) c) in
         reach-stmt s gs (Begin gs) i (p + width c + 3) v.1 (λ x q. refl) (λ x. y) y (omega (arith, n1, ap (begun_stmt s) h))
         ))
         ))
@@ -139,7 +139,7 @@ module _ (lines : ℕ → ℕ) (m : ℕ) where
         (
         let h : k - (width c + 3) ≡ i = omega arith in
         let full : begun c (k - 2) ≡ height c = begun-full c (k - 2) v.0 (omega arith) in
-        let y : load_stack gs ≤ m = omega (arith, n1, full, height-place lines (p + 2) c) in
+        let y : deepest_stack_path gs ≤ m = omega (arith, n1, full, height-place lines (p + 2) c) in
         w-part lines m (spell_stmt s) (kind.Word word.Else ∷ spell_stmt t) i a (a + width_stmt s) (Begin gs) (after_stmt s' gs) (read-stmt lines s gs (Begin gs) a v.1 (λ x q. refl))
         (λ q. reach-stmt s gs (Begin gs) i a v.1 (λ x r. refl) (λ x. y) y (omega (arith, n1, ap (begun_stmt s) h)))
         (λ r q.
@@ -148,7 +148,7 @@ module _ (lines : ℕ → ℕ) (m : ℕ) where
         (
         let q2 : k - (width c + width_stmt s + 4) ≡ x = omega arith in
         let full2 : begun_stmt s (k - (width c + 3)) ≡ height_stmt s = full-stmt s (k - (width c + 3)) v.1 (omega arith) in
-        let w2 : load_stack hs ≤ m = omega (arith, n1, full, full2, height-place lines (p + 2) c, stmt-place lines a s) in
+        let w2 : deepest_stack_path hs ≤ m = omega (arith, n1, full, full2, height-place lines (p + 2) c, stmt-place lines a s) in
         reach-stmt t hs (Begin hs) x b v.3 (λ x q. refl) (λ x. w2) w2 (omega (arith, n1, ap (begun_stmt t) q2))
         )))
         ))
@@ -168,7 +168,7 @@ module _ (lines : ℕ → ℕ) (m : ℕ) where
         (
         let h : k - (width c + 3) ≡ i = omega arith in
         let b : begun c (k - 2) ≡ height c = begun-full c (k - 2) v.0 (omega arith) in
-        let y : load_stack gs ≤ m = omega (arith, n1, b, height-place lines (p + 2) c) in
+        let y : deepest_stack_path gs ≤ m = omega (arith, n1, b, height-place lines (p + 2) c) in
         reach-stmt s gs (Begin gs) i (p + width c + 3) v.1 (λ x q. refl) (λ x. y) y (omega (arith, n1, ap (begun_stmt s) h))
         ))
         ))
@@ -186,7 +186,7 @@ module _ (lines : ℕ → ℕ) (m : ℕ) where
         (
         let n1 = node-some k (max (begun_stmt s (k - 1)) (begun c (k - (width_stmt s + 3)))) (omega arith) in
         let g : k - 1 ≡ j = omega arith in
-        let y : load_stack gs ≤ m = omega (arith, n1) in
+        let y : deepest_stack_path gs ≤ m = omega (arith, n1) in
         w-part lines m (spell_stmt s) rest j (p + 1) (p + 1 + width_stmt s) (Begin gs) (after_stmt s' gs) (read-stmt lines s gs (Begin gs) (p + 1) v.0 (λ x q. refl))
         (λ q. reach-stmt s gs (Begin gs) j (p + 1) v.0 (λ x r. refl) (λ x. y) y (omega (arith, n1, ap (begun_stmt s) g)))
         (λ r q.
@@ -201,7 +201,7 @@ module _ (lines : ℕ → ℕ) (m : ℕ) where
         (λ x t.
         (
         let full2 : begun c (k - (width_stmt s + 3)) ≡ height c = begun-full c (k - (width_stmt s + 3)) v.1 (omega arith) in
-        let b : load done ≤ m = omega (arith, n1, full, full2, stmt-place lines (p + 1) s, height-place lines a c) in
+        let b : deepest_path done ≤ m = omega (arith, n1, full, full2, stmt-place lines (p + 1) s, height-place lines a c) in
         w-token lines m (kind.Sign sign.Semi) [] x (a + width c + 1) (a + width c + 2) end done (λ e2. b) refl (omega arith) (λ i2 e2. w-nothing lines m i2 (a + width c + 2) done b)
         ))
         )))
@@ -235,7 +235,7 @@ module _ (lines : ℕ → ℕ) (m : ℕ) where
         (λ r x.
         (
         let fs1 : begun_start start (k - 2) ≡ height_start start = full-start start (k - 2) v.0 (omega arith) in
-        let lu : use_load u ≤ m = omega (arith, n1, fs1, start-place lines (p + 2) start) in
+        let lu : context_path u ≤ m = omega (arith, n1, fs1, start-place lines (p + 2) start) in
         let h : ka ≡ suc r = omega arith in
         w-part lines m (spell_option test) rest2 (suc r) a (a + width_option test) (Optional u) (after_option u test') (read-option lines u test a (any-level test v.1))
         (λ x2. reach-option lines m u test (suc r) a (any-level test v.1) lu (omega (arith, n1, ap (begun_option test) h)))
@@ -245,7 +245,7 @@ module _ (lines : ℕ → ℕ) (m : ℕ) where
         (λ r3 x3.
         (
         let fs2 : begun_option test ka ≡ height_option test = full-option test ka v.1 (omega arith) in
-        let lw : use_load w ≤ m = omega (arith, n1, fs1, fs2, start-place lines (p + 2) start, option-place lines a test) in
+        let lw : context_path w ≤ m = omega (arith, n1, fs1, fs2, start-place lines (p + 2) start, option-place lines a test) in
         let h2 : kb ≡ r3 = omega arith in
         w-part lines m (spell_option next) rest3 r3 b (b + width_option next) (Optional w) (after_option w next') (read-option lines w next b (any-level next v.2))
         (λ x4. reach-option lines m w next r3 b (any-level next v.2) lw (omega (arith, n1, ap (begun_option next) h2)))
@@ -255,7 +255,7 @@ module _ (lines : ℕ → ℕ) (m : ℕ) where
         (λ r5 x5.
         (
         let fs3 : begun_option next kb ≡ height_option next = full-option next kb v.2 (omega arith) in
-        let lg : load_stack gs ≤ m = omega (arith, n1, fs1, fs2, fs3, start-place lines (p + 2) start, option-place lines a test, option-place lines b next) in
+        let lg : deepest_stack_path gs ≤ m = omega (arith, n1, fs1, fs2, fs3, start-place lines (p + 2) start, option-place lines a test, option-place lines b next) in
         let h3 : kq ≡ r5 = omega arith in
         reach-stmt s gs (Begin gs) r5 q v.3 (λ x q. refl) (λ x. lg) lg (omega (arith, n1, ap (begun_stmt s) h3))
         )))
@@ -297,8 +297,8 @@ module _ (lines : ℕ → ℕ) (m : ℕ) where
         ))
 
     -- what is left of a block, and its closing brace
-    pub reach-block : (items : BlockTrees) (f n : ℕ) (xs : BlockTrees) (fs : List Frame) (st : State) (k p : ℕ) → ValidBlock items
-        → ((c : TokenKind) → NotElse c → step (here lines p) c st ≡ block_item (here lines p) c f n xs fs) → (k ≡ 0 → load st ≤ m) → load_stack (InBlock f n xs ∷ fs) ≤ m
+    pub reach-block : (items : BlockTrees) (f n : ℕ) (xs : BlockTrees) (fs : List PendingStmt) (st : State) (k p : ℕ) → ValidBlock items
+        → ((c : TokenKind) → NotElse c → shift (here lines p) c st ≡ block_item (here lines p) c f n xs fs) → (k ≡ 0 → deepest_path st ≤ m) → deepest_stack_path (InBlock f n xs ∷ fs) ≤ m
         → length fs + 1 + begun_block items k ≤ m → Within m (run lines p (take k (spell_block items ++ kind.Sign sign.CloseBrace ∷ [])) (Some st))
     reach-block BlockTrees.NoItems f n xs fs st k p v same z l d =
         let end = Done (StmtTree.Block f n xs) fs in
@@ -311,7 +311,7 @@ module _ (lines : ℕ → ℕ) (m : ℕ) where
         w-spelled lines m k p (spell_local y ++ (spell_block items ++ kind.Sign sign.CloseBrace ∷ [])) ((spell_local y ++ spell_block items) ++ kind.Sign sign.CloseBrace ∷ []) st
         (sym (append_assoc (spell_local y) (spell_block items) (kind.Sign sign.CloseBrace ∷ []))) (
         w-part lines m (spell_local y) (spell_block items ++ kind.Sign sign.CloseBrace ∷ []) k p q st next (read-local lines f n xs fs y st p v.0 begins)
-        (λ e. reach-local lines m (Inner f n xs fs) y st k p v.0 begins z l (omega arith))
+        (λ e. reach-local lines m (BlockScope f n xs fs) y st k p v.0 begins z l (omega arith))
         (λ j e.
         (
         let full : begun_local y k ≡ height_local y = full-local y k v.0 (omega arith) in

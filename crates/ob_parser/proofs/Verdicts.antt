@@ -7,13 +7,14 @@ use Rattle.ob_tree.specs.Trees.{ExprTree, SpecTree}
 use Rattle.ob_tree.specs.Valid.{IsOfSource}
 use Rattle.ob_tree.specs.Places.{PlacedExpr, PlacedSpec}
 use Rattle.ob_tree.specs.Fronts.{kinds, lines, within, FrontExpr, DeepFrontExpr, IsExpr, FrontSpec, DeepFrontSpec, IsSpec}
-use Rattle.ob_tree.specs.Answers.{IsLeastWithout, Stops, Verdict, Whole, NoTree, TooDeep, IsVerdict}
+use Rattle.ob_tree.specs.Verdicts.{IsLeastWithout, Stops, Verdict, Whole, NoTree, TooDeep, IsVerdict}
 use Rattle.ob_tree.proofs.OneTree.{one-expression, one-specifier}
-use Rattle.ob_tree.proofs.Frames.{Operand, Specifier}
-use Rattle.ob_tree.proofs.Machine.{finish, finish_spec}
-use Rattle.ob_tree.proofs.Readings.{verdict, right}
+use Rattle.ob_tree.specs.ExprStates.{BeforeOperand, Specifier}
+use Rattle.ob_tree.specs.ExprMachine.{finish, finish_spec}
+use Rattle.ob_tree.specs.Readings.{verdict}
+use Rattle.ob_tree.proofs.RightReadings.{right}
 use Rattle.ob_exprs.specs.Parsed.{IsExprVerdict, IsSpecVerdict}
-use Rattle.ob_exprs.specs.Reads.{reading}
+use Rattle.ob_exprs.specs.ReadTokens.{reading}
 use Rattle.ob_exprs.proofs.Exact.{exact-expr, exact-spec, machine as run_expr, spec_machine}
 
 -- Only one verdict is right, where only one tree is at a place.
@@ -68,7 +69,7 @@ module _ (ts : List Token) (from depth : ℕ) where
       (λ i s t x y p q. one-specifier (lines ts) from s t x.valid y.valid p q (x.spelled ∙ sym y.spelled)) v w a b
 
 -- nothing was read yet
-start-run : (ts : List Token) (from least : ℕ) → run_expr (lines ts) least from (kinds ts from from) ≡ Some (Operand [])
+start-run : (ts : List Token) (from least : ℕ) → run_expr (lines ts) least from (kinds ts from from) ≡ Some (BeforeOperand [])
 start-run ts from least =
     let e : from - from ≡ 0 = omega arith in
     ap (λ n. run_expr (lines ts) least from (map (λ t. t.kind) (take n (drop from ts)))) e
@@ -79,9 +80,9 @@ start-spec ts from =
     ap (λ n. spec_machine (lines ts) from (map (λ t. t.kind) (take n (drop from ts)))) e
 
 module _ (ts : List Token) (from depth : ℕ) (all : All (λ t. IsOfSource t.kind) ts) (f : from ≤ length ts) (b : depth ≤ 256) where
-  pub expr-verdict : (level : ℕ) → level ≤ 2 → IsExprVerdict ts from depth level (verdict finish (reading ts level depth from (Operand [])))
+  pub expr-verdict : (level : ℕ) → level ≤ 2 → IsExprVerdict ts from depth level (verdict finish (reading ts level depth from (BeforeOperand [])))
   expr-verdict level small =
-      right _ _ _ _ _ _ from depth (run_expr (lines ts) level from) (exact-expr (lines ts) level small from depth) ts all (drop from ts) from (Operand []) refl (omega arith) f
+      right _ _ _ _ _ _ from depth (run_expr (lines ts) level from) (exact-expr (lines ts) level small from depth) ts all (drop from ts) from (BeforeOperand []) refl (omega arith) f
       (start-run ts from level) (omega arith) (λ j h g. absurd (omega arith))
 
   pub spec-verdict : IsSpecVerdict ts from depth (verdict finish_spec (reading ts 17 depth from (Specifier [])))

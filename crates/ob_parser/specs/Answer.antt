@@ -10,7 +10,7 @@ use Rattle.ob_tree.specs.ProgramPlaces.{PlacedProgram}
 use Rattle.ob_tree.specs.ProgramView.{program_tree}
 use Rattle.ob_tree.specs.Fronts.{greatest_path, kinds, lines, within}
 use Rattle.ob_tree.specs.ProgramFronts.{FrontProgram, DeepFrontProgram, IsProgram, IsTreeOf}
-use Rattle.ob_tree.specs.Answers.{Verdict, IsVerdict}
+use Rattle.ob_tree.specs.Verdicts.{Verdict, IsVerdict}
 
 pub data Answer : Type 0 where
   Parsed : (program : ProgramTree) → Answer

@@ -1,6 +1,6 @@
-pub mod Loads
+pub mod DeepestPaths
 pub mod Answer
 pub mod View
-pub mod Steps
-pub mod Reads
+pub mod Shifts
+pub mod ReadTokens
 pub mod Statements

@@ -8,28 +8,28 @@ use Rattle.ob_tree.specs.declared.tokens.Keyword.{Keyword}
 use Rattle.ob_tree.specs.declared.tokens.Sign.TheVariants as sign
 use Rattle.ob_tree.specs.Trees.{Mark}
 use Rattle.ob_tree.specs.Programs.{StmtTree, BlockTrees}
-use Rattle.ob_tree.proofs.ProgramStates.{Frame, InBlock, InIf, InElse, InWhile, InDo, InFor, IfTest, WhileTest, Return, State, Optional, Begin, Opening, ForWord, Semi}
-use Rattle.ob_tree.proofs.Machine.{is_spec_word}
-use Rattle.ob_tree.proofs.ProgramMachine.{begins_declaration}
+use Rattle.ob_tree.specs.ProgramStates.{PendingStmt, InBlock, InIf, InElse, InWhile, InDo, InFor, IfTest, WhileTest, Return, State, Optional, Begin, Opening, ForWord, Semi}
+use Rattle.ob_tree.specs.ExprMachine.{is_spec_word}
+use Rattle.ob_tree.specs.ProgramMachine.{begins_declaration}
 
--- whether a statement makes the innermost frame whole; where ifs is false, an `if` waits for an `else`
-abbrev pub closes : (ifs : Bool) → List Frame → Bool
+-- whether a statement makes the innermost pending statement whole; where ifs is false, an `if` waits for an `else`
+abbrev pub closes : (ifs : Bool) → List PendingStmt → Bool
 closes ifs (InIf f n c ∷ fs) = ifs
 closes ifs (InElse f n c x ∷ fs) = true
 closes ifs (InWhile f n c ∷ fs) = true
 closes ifs (InFor f n i c x ∷ fs) = true
 closes ifs fs = false
 
--- the innermost frame with its last part
-abbrev pub closed_top : StmtTree → List Frame → StmtTree × List Frame
+-- the innermost pending statement with its last part
+abbrev pub closed_top : StmtTree → List PendingStmt → StmtTree × List PendingStmt
 closed_top s (InIf f n c ∷ fs) = (StmtTree.If f n c s, fs)
 closed_top s (InElse f n c x ∷ fs) = (StmtTree.IfElse f n c x s, fs)
 closed_top s (InWhile f n c ∷ fs) = (StmtTree.While f n c s, fs)
 closed_top s (InFor f n i c x ∷ fs) = (StmtTree.For f n i c x s, fs)
 closed_top s fs = (s, fs)
 
--- the frames that close, the innermost first, closed
-abbrev pub closed : (ifs : Bool) → StmtTree → List Frame → StmtTree × List Frame
+-- the pending statements that close, the innermost first, closed
+abbrev pub closed : (ifs : Bool) → StmtTree → List PendingStmt → StmtTree × List PendingStmt
 closed ifs s (InIf f n c ∷ fs) = cond ifs (closed ifs (StmtTree.If f n c s) fs) (s, InIf f n c ∷ fs)
 closed ifs s (InElse f n c x ∷ fs) = closed ifs (StmtTree.IfElse f n c x s) fs
 closed ifs s (InWhile f n c ∷ fs) = closed ifs (StmtTree.While f n c s) fs
@@ -37,7 +37,7 @@ closed ifs s (InFor f n i c x ∷ fs) = closed ifs (StmtTree.For f n i c x s) fs
 closed ifs s fs = (s, fs)
 
 -- an `else` behind a statement that makes no other whole but an `if`
-abbrev pub else_at : StmtTree → List Frame → Option State
+abbrev pub else_at : StmtTree → List PendingStmt → Option State
 else_at s (InIf f n c ∷ fs) = Some (Begin (InElse f n c s ∷ fs))
 else_at s fs = None
 
@@ -81,7 +81,7 @@ begins_statement (kind.Sign sign.OpenBrace) = true
 begins_statement k = false
 
 -- the state behind that token
-abbrev pub word_begun : Mark → Keyword → List Frame → Option State
+abbrev pub word_begun : Mark → Keyword → List PendingStmt → Option State
 word_begun m word.If fs = Some (Opening (IfTest m.first m.line fs))
 word_begun m word.While fs = Some (Opening (WhileTest m.first m.line fs))
 word_begun m word.Do fs = Some (Begin (InDo m.first m.line ∷ fs))
@@ -91,7 +91,7 @@ word_begun m word.Continue fs = Some (Semi (StmtTree.Continue m.first m.line) fs
 word_begun m word.Return fs = Some (Optional (Return m.first m.line fs))
 word_begun m w fs = None
 
-abbrev pub begun : Mark → TokenKind → List Frame → Option State
+abbrev pub begun : Mark → TokenKind → List PendingStmt → Option State
 begun m (kind.Word w) fs = word_begun m w fs
 begun m (kind.Sign sign.OpenBrace) fs = Some (Begin (InBlock m.first m.line BlockTrees.NoItems ∷ fs))
 begun m k fs = None

@@ -6,28 +6,28 @@ use Rattle.ob_tree.specs.Trees.{Mark, InitTrees}
 use Rattle.ob_tree.specs.Programs.{BlockTrees}
 use Rattle.ob_tree.specs.ExpressionView.{expr_tree, spec_tree, dim_trees, init_tree}
 use Rattle.ob_tree.specs.ProgramView.{option_tree, start_tree, stmt_tree, in_front, param_tree, params_tree, file_tree, item_tree}
-use Rattle.ob_tree.proofs.ProgramStates as plain
-use Rattle.ob_parser.specs.declared.state.Place.{Place}
+use Rattle.ob_tree.specs.ProgramStates as plain
+use Rattle.ob_parser.specs.declared.state.TokenMark.{TokenMark}
 use Rattle.ob_parser.specs.declared.state.Definition.{Definition}
-use Rattle.ob_parser.specs.declared.state.Frame.{Frame}
-use Rattle.ob_parser.specs.declared.state.Frame.TheVariants as frame
-use Rattle.ob_parser.specs.declared.state.Owner.{Owner}
-use Rattle.ob_parser.specs.declared.state.Owner.TheVariants as owner
+use Rattle.ob_parser.specs.declared.state.PendingStmt.{PendingStmt}
+use Rattle.ob_parser.specs.declared.state.PendingStmt.TheVariants as parent
+use Rattle.ob_parser.specs.declared.state.Scope.{Scope}
+use Rattle.ob_parser.specs.declared.state.Scope.TheVariants as scope
 use Rattle.ob_parser.specs.declared.state.Heading.{Heading}
 use Rattle.ob_parser.specs.declared.state.Declaration.{Declaration}
 use Rattle.ob_parser.specs.declared.state.Declarator.{Declarator}
-use Rattle.ob_parser.specs.declared.state.Listing.{Listing}
+use Rattle.ob_parser.specs.declared.state.ParamList.{ParamList}
 use Rattle.ob_parser.specs.declared.state.Head.{Head}
 use Rattle.ob_parser.specs.declared.state.Head.TheVariants as head
-use Rattle.ob_parser.specs.declared.state.Target.{Target}
-use Rattle.ob_parser.specs.declared.state.Braces.{Braces}
-use Rattle.ob_parser.specs.declared.state.SpecUse.{SpecUse}
-use Rattle.ob_parser.specs.declared.state.SpecUse.TheVariants as for_spec
-use Rattle.ob_parser.specs.declared.state.Use.{Use}
-use Rattle.ob_parser.specs.declared.state.Use.TheVariants as for_expr
+use Rattle.ob_parser.specs.declared.state.InitDeclarator.{InitDeclarator}
+use Rattle.ob_parser.specs.declared.state.InitList.{InitList}
+use Rattle.ob_parser.specs.declared.state.SpecContext.{SpecContext}
+use Rattle.ob_parser.specs.declared.state.SpecContext.TheVariants as for_spec
+use Rattle.ob_parser.specs.declared.state.ExprContext.{ExprContext}
+use Rattle.ob_parser.specs.declared.state.ExprContext.TheVariants as for_expr
 
 -- the place of a token, as that of a node that begins with it
-abbrev pub mark : Place → Mark
+abbrev pub mark : TokenMark → Mark
 mark p = record { first = p.at; at = p.at; line = p.line }
 
 -- lists of the program as plain data
@@ -52,26 +52,26 @@ definition_of d = record {
   params = params_tree d.params;
 }
 
-abbrev pub frame_of : Frame → plain.Frame
-frame_of (frame.Body d) = plain.InBody (definition_of d)
-frame_of (frame.Block f n items) = plain.InBlock f n (block_trees items.items)
-frame_of (frame.If f n c) = plain.InIf f n (expr_tree c)
-frame_of (frame.Else f n c s) = plain.InElse f n (expr_tree c) (stmt_tree s)
-frame_of (frame.While f n c) = plain.InWhile f n (expr_tree c)
-frame_of (frame.Do f n) = plain.InDo f n
-frame_of (frame.For f n i c x) = plain.InFor f n (start_tree i) (option_tree c) (option_tree x)
+abbrev pub pending_of : PendingStmt → plain.PendingStmt
+pending_of (parent.Body d) = plain.InBody (definition_of d)
+pending_of (parent.Block f n items) = plain.InBlock f n (block_trees items.items)
+pending_of (parent.If f n c) = plain.InIf f n (expr_tree c)
+pending_of (parent.Else f n c s) = plain.InElse f n (expr_tree c) (stmt_tree s)
+pending_of (parent.While f n c) = plain.InWhile f n (expr_tree c)
+pending_of (parent.Do f n) = plain.InDo f n
+pending_of (parent.For f n i c x) = plain.InFor f n (start_tree i) (option_tree c) (option_tree x)
 
--- the newest first
-abbrev pub frames_of : List Frame → List plain.Frame
-frames_of fs = map frame_of (reverse fs)
+-- the newest_path first
+abbrev pub pending_stmts_of : List PendingStmt → List plain.PendingStmt
+pending_stmts_of fs = map pending_of (reverse fs)
 
-abbrev pub owner_of : Owner → plain.Owner
-owner_of (owner.Outer items) = plain.Outer (map item_tree items.items)
-owner_of (owner.Inner f n items fs) = plain.Inner f n (block_trees items.items) (frames_of fs.items)
-owner_of (owner.Start f n fs) = plain.Start f n (frames_of fs.items)
+abbrev pub scope_of : Scope → plain.Scope
+scope_of (scope.FileScope items) = plain.FileScope (map item_tree items.items)
+scope_of (scope.BlockScope f n items fs) = plain.BlockScope f n (block_trees items.items) (pending_stmts_of fs.items)
+scope_of (scope.ForScope f n fs) = plain.ForScope f n (pending_stmts_of fs.items)
 
 abbrev pub heading_of : Heading → plain.Heading
-heading_of h = record { owner = owner_of h.owner; first = h.first; line = h.line; fixed = h.fixed }
+heading_of h = record { scope = scope_of h.scope; first = h.first; line = h.line; fixed = h.fixed }
 
 abbrev pub declaration_of : Declaration → plain.Declaration
 declaration_of d = record { heading = heading_of d.heading; spec = spec_tree d.spec; names = map file_tree d.names.items }
@@ -79,35 +79,35 @@ declaration_of d = record { heading = heading_of d.heading; spec = spec_tree d.s
 abbrev pub declarator_of : Declarator → plain.Declarator
 declarator_of x = record { declaration = declaration_of x.declaration; stars = x.stars; name = x.name; at = x.at }
 
-abbrev pub listing_of : Listing → plain.Listing
-listing_of l = record { function = declarator_of l.function; params = map param_tree l.params.items }
+abbrev pub param_list_of : ParamList → plain.ParamList
+param_list_of l = record { function = declarator_of l.function; params = map param_tree l.params.items }
 
 abbrev pub head_of : Head → plain.Head
 head_of (head.Name x) = plain.OfName (declarator_of x)
-head_of (head.Param l f n s i name a) = plain.OfParam (listing_of l) f n (spec_tree s) i name a
+head_of (head.Param l f n s i name a) = plain.OfParam (param_list_of l) f n (spec_tree s) i name a
 
-abbrev pub target_of : Target → plain.Target
-target_of t = record { declarator = declarator_of t.declarator; dims = dim_trees t.dims.items }
+abbrev pub init_declarator_of : InitDeclarator → plain.InitDeclarator
+init_declarator_of t = record { declarator = declarator_of t.declarator; dims = dim_trees t.dims.items }
 
-abbrev pub brace_of : Braces → plain.Braces
-brace_of b = record { first = b.first; items = init_trees b.items.items }
+abbrev pub init_list_of : InitList → plain.InitList
+init_list_of b = record { first = b.first; items = init_trees b.items.items }
 
 -- the innermost first
-abbrev pub braces_of : List Braces → List plain.Braces
-braces_of bs = map brace_of (reverse bs)
+abbrev pub init_lists_of : List InitList → List plain.InitList
+init_lists_of bs = map init_list_of (reverse bs)
 
-abbrev pub spec_use_of : SpecUse → plain.SpecUse
-spec_use_of (for_spec.Declaration h) = plain.ForDeclaration (heading_of h)
-spec_use_of (for_spec.Param l f n) = plain.ForParam (listing_of l) f n
+abbrev pub spec_context_of : SpecContext → plain.SpecContext
+spec_context_of (for_spec.Declaration h) = plain.ForDeclaration (heading_of h)
+spec_context_of (for_spec.Param l f n) = plain.ForParam (param_list_of l) f n
 
-abbrev pub use_of : Use → plain.Use
-use_of (for_expr.Statement f n fs) = plain.Statement f n (frames_of fs.items)
-use_of (for_expr.IfTest f n fs) = plain.IfTest f n (frames_of fs.items)
-use_of (for_expr.WhileTest f n fs) = plain.WhileTest f n (frames_of fs.items)
-use_of (for_expr.DoTest f n s fs) = plain.DoTest f n (stmt_tree s) (frames_of fs.items)
-use_of (for_expr.ForStart f n fs) = plain.ForStart f n (frames_of fs.items)
-use_of (for_expr.ForTest f n i fs) = plain.ForTest f n (start_tree i) (frames_of fs.items)
-use_of (for_expr.ForNext f n i c fs) = plain.ForNext f n (start_tree i) (option_tree c) (frames_of fs.items)
-use_of (for_expr.Return f n fs) = plain.Return f n (frames_of fs.items)
-use_of (for_expr.Length h ds) = plain.Length (head_of h) (dim_trees ds.items)
-use_of (for_expr.Item t bs) = plain.Item (target_of t) (braces_of bs.items)
+abbrev pub expr_context_of : ExprContext → plain.ExprContext
+expr_context_of (for_expr.Statement f n fs) = plain.Statement f n (pending_stmts_of fs.items)
+expr_context_of (for_expr.IfTest f n fs) = plain.IfTest f n (pending_stmts_of fs.items)
+expr_context_of (for_expr.WhileTest f n fs) = plain.WhileTest f n (pending_stmts_of fs.items)
+expr_context_of (for_expr.DoTest f n s fs) = plain.DoTest f n (stmt_tree s) (pending_stmts_of fs.items)
+expr_context_of (for_expr.ForStart f n fs) = plain.ForStart f n (pending_stmts_of fs.items)
+expr_context_of (for_expr.ForTest f n i fs) = plain.ForTest f n (start_tree i) (pending_stmts_of fs.items)
+expr_context_of (for_expr.ForNext f n i c fs) = plain.ForNext f n (start_tree i) (option_tree c) (pending_stmts_of fs.items)
+expr_context_of (for_expr.Return f n fs) = plain.Return f n (pending_stmts_of fs.items)
+expr_context_of (for_expr.Length h ds) = plain.Length (head_of h) (dim_trees ds.items)
+expr_context_of (for_expr.Item t bs) = plain.Item (init_declarator_of t) (init_lists_of bs.items)

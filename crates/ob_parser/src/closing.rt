@@ -1,80 +1,85 @@
 ghost use Rattle.std.specs.Prelude.{◌≡◌, IfOk};
 ghost use Rattle.ob_tree.specs.ProgramView.{stmt_tree};
 ghost use Rattle.ob_parser.specs.Statements.{closed as closed_of, closed_top, closes as closes_of};
-ghost use Rattle.ob_parser.specs.View.{frames_of};
+ghost use Rattle.ob_parser.specs.View.{pending_stmts_of};
 
-use crate::frames::{pop_frame, push_frame};
-use crate::nodes::{for_loop, if_alone, if_else, while_loop};
-use crate::state::Frame;
+use crate::nodes::{for_stmt, if_else_stmt, if_stmt, while_stmt};
+use crate::pending::{pop_pending, push_pending};
+use crate::state::PendingStmt;
 use ob_base::NoMemory;
 use ob_tree::Stmt;
 use std::alloc::Global;
 
-/// Whether a statement makes the innermost frame whole. Where `ifs` is false, an `if` waits for an
+/// Whether a statement makes the innermost pending statement whole. Where `ifs` is false, an `if` waits for an
 /// `else`.
-fn closes(frames: &Vec<Frame>, ifs: bool) -> bool
-    ensures { result ≡ closes_of ifs (frames_of frames.now.items) }
+fn closes(pending: &Vec<PendingStmt>, ifs: bool) -> bool
+    ensures { result ≡ closes_of ifs (pending_stmts_of pending.now.items) }
 {
-    match frames.last() {
-        Some(Frame::If { .. }) => ifs,
-        Some(Frame::Else { .. } | Frame::While { .. } | Frame::For { .. }) => true,
+    match pending.last() {
+        Some(PendingStmt::If { .. }) => ifs,
+        Some(PendingStmt::Else { .. } | PendingStmt::While { .. } | PendingStmt::For { .. }) =>
+            true,
         _ => false,
     }
 }
 
-/// Gives the innermost frame its last part.
-fn close_top(alloc: Global, stmt: Stmt, frames: Vec<Frame>) -> Result<(Stmt, Vec<Frame>), NoMemory>
-    ensures { IfOk result (λ r. (stmt_tree r.0, frames_of r.1.items) ≡ closed_top (stmt_tree stmt) (frames_of frames.items)) }
+/// Gives the innermost pending statement its last part.
+fn close_top(
+    alloc: Global,
+    stmt: Stmt,
+    pending: Vec<PendingStmt>,
+) -> Result<(Stmt, Vec<PendingStmt>), NoMemory>
+    ensures { IfOk result (λ r. (stmt_tree r.0, pending_stmts_of r.1.items) ≡ closed_top (stmt_tree stmt) (pending_stmts_of pending.items)) }
 {
-    let mut rest = frames;
-    match pop_frame(&mut rest) {
-        Some(Frame::If { first, line, test }) => {
-            Ok((if_alone(alloc, first, line, test, stmt)?, rest))
+    let mut rest = pending;
+    match pop_pending(&mut rest) {
+        Some(PendingStmt::If { first, line, test }) => {
+            Ok((if_stmt(alloc, first, line, test, stmt)?, rest))
         }
         Some(
-            Frame::Else {
+            PendingStmt::Else {
                 first,
                 line,
                 test,
                 then,
             },
-        ) => Ok((if_else(alloc, first, line, test, then, stmt)?, rest)),
-        Some(Frame::While { first, line, test }) => {
-            Ok((while_loop(alloc, first, line, test, stmt)?, rest))
+        ) => Ok((if_else_stmt(alloc, first, line, test, then, stmt)?, rest)),
+        Some(PendingStmt::While { first, line, test }) => {
+            Ok((while_stmt(alloc, first, line, test, stmt)?, rest))
         }
         Some(
-            Frame::For {
+            PendingStmt::For {
                 first,
                 line,
                 start,
                 test,
                 next,
             },
-        ) => Ok((for_loop(alloc, first, line, start, test, next, stmt)?, rest)),
+        ) => Ok((for_stmt(alloc, first, line, start, test, next, stmt)?, rest)),
         Some(other) => {
-            push_frame(&mut rest, other)?;
+            push_pending(&mut rest, other)?;
             Ok((stmt, rest))
         }
         None => Ok((stmt, rest)),
     }
 }
 
-/// Closes the frames that the statement makes whole, from the innermost on.
+/// Closes the pending statements that the statement makes whole, from the innermost on.
 #[tactic(auto, using(crate::proofs::Turns::stops))]
 pub fn close(
     alloc: Global,
     stmt: Stmt,
-    frames: Vec<Frame>,
+    pending: Vec<PendingStmt>,
     ifs: bool,
-) -> Result<(Stmt, Vec<Frame>), NoMemory>
-    ensures { IfOk result (λ r. (stmt_tree r.0, frames_of r.1.items) ≡ closed_of ifs (stmt_tree stmt) (frames_of frames.items)) }
+) -> Result<(Stmt, Vec<PendingStmt>), NoMemory>
+    ensures { IfOk result (λ r. (stmt_tree r.0, pending_stmts_of r.1.items) ≡ closed_of ifs (stmt_tree stmt) (pending_stmts_of pending.items)) }
 {
     let mut stmt = stmt;
-    let mut frames = frames;
-    'closing: while closes(&frames, ifs) {
-        let (whole, rest) = close_top(alloc, stmt, frames)?;
+    let mut pending = pending;
+    'closing: while closes(&pending, ifs) {
+        let (whole, rest) = close_top(alloc, stmt, pending)?;
         stmt = whole;
-        frames = rest;
+        pending = rest;
     }
-    Ok((stmt, frames))
+    Ok((stmt, pending))
 }

@@ -2,16 +2,17 @@ ghost use Rattle.std.specs.Prelude.{◌≡◌, ◌<◌, ◌++◌, ◌∷◌, [],
 ghost use Rattle.ob_tree.specs.Programs.{ItemTree};
 ghost use Rattle.ob_tree.specs.ExpressionView.{obj_trees, spec_tree};
 ghost use Rattle.ob_tree.specs.ProgramView.{file_tree, item_tree, local_tree};
-ghost use Rattle.ob_tree.proofs.ProgramStates.{Begin, InBlock, Items};
-ghost use Rattle.ob_tree.proofs.ProgramMachine.{begin_declaration as begin_declaration_of, declare as declare_of, end_declaration as end_declaration_of, first_name as first_name_of, next_name as next_name_of, specified as specified_of};
-ghost use Rattle.ob_tree.proofs.ProgramParts.{add_local as add_local_of, add_name as add_name_of, declares_tag as declares_tag_of, objects as objects_of};
-ghost use Rattle.ob_parser.specs.Steps.{Leads, Reaches, state_of};
-ghost use Rattle.ob_parser.specs.View.{block_trees, declaration_of, frames_of, mark, owner_of, spec_use_of};
+ghost use Rattle.ob_tree.specs.ProgramStates.{Begin, InBlock, Items};
+ghost use Rattle.ob_tree.specs.ProgramMachine.{begin_declaration as begin_declaration_of, declare as declare_of, end_declaration as end_declaration_of, first_name as first_name_of, next_name as next_name_of, specified as specified_of};
+ghost use Rattle.ob_tree.specs.ProgramParts.{add_local as add_local_of, add_name as add_name_of, declares_tag as declares_tag_of, objects as objects_of};
+ghost use Rattle.ob_parser.specs.Shifts.{Leads, Reaches, state_of};
+ghost use Rattle.ob_parser.specs.View.{block_trees, declaration_of, pending_stmts_of, mark, scope_of, spec_context_of};
 
-use crate::frames::push_frame;
 use crate::params::param;
+use crate::pending::push_pending;
 use crate::state::{
-    Declaration, Declarator, Frame, Head, Heading, Owner, Place, SpecUse, State, Step, Use,
+    Declaration, Declarator, ExprContext, Head, Heading, PendingStmt, Scope, Shift, SpecContext,
+    State, TokenMark,
 };
 use ob_base::{NoMemory, Text};
 use ob_tree::{
@@ -29,22 +30,22 @@ pub fn copy_of(alloc: Global, text: &Text) -> Result<Text, NoMemory>
 }
 
 /// A declaration begins with the token, with `static` or without.
-pub fn begin_declaration(kind: &TokenKind, place: Place, owner: Owner) -> Step
-    ensures { Leads (mark place) kind.now result (begin_declaration_of (mark place) kind.now (owner_of owner)) }
+pub fn begin_declaration(kind: &TokenKind, place: TokenMark, scope: Scope) -> Shift
+    ensures { Leads (mark place) kind.now result (begin_declaration_of (mark place) kind.now (scope_of scope)) }
 {
     let first = place.at;
     let line = place.line;
     match kind {
         TokenKind::Word(Keyword::Static) => {
-            Step::Goes(State::Specifying(SpecUse::Declaration(Heading {
-                owner,
+            Shift::Shifted(State::Specifying(SpecContext::Declaration(Heading {
+                scope,
                 first,
                 line,
                 fixed: true,
             })))
         }
-        _ => Step::Specifies(SpecUse::Declaration(Heading {
-            owner,
+        _ => Shift::NeedsSpec(SpecContext::Declaration(Heading {
+            scope,
             first,
             line,
             fixed: false,
@@ -139,16 +140,16 @@ fn end_inside(
     first: u32,
     line: u32,
     items: Vec<BlockItem>,
-    frames: Vec<Frame>,
+    pending: Vec<PendingStmt>,
     local: Local,
 ) -> Result<State, NoMemory>
     ensures { IfOk result (λ s. state_of s
-        ≡ Begin (InBlock first line (add_local_of (block_trees items.items) (local_tree local)) ∷ frames_of frames.items)) }
+        ≡ Begin (InBlock first line (add_local_of (block_trees items.items) (local_tree local)) ∷ pending_stmts_of pending.items)) }
 {
     let items = push_local(items, local)?;
-    let mut frames = frames;
-    push_frame(&mut frames, Frame::Block { first, line, items })?;
-    Ok(State::Begin(frames))
+    let mut pending = pending;
+    push_pending(&mut pending, PendingStmt::Block { first, line, items })?;
+    Ok(State::Begin(pending))
 }
 
 /// The state behind a whole declaration.
@@ -161,33 +162,33 @@ fn end_declaration(alloc: Global, declaration: Declaration) -> Result<State, NoM
         names,
     } = declaration;
     let Heading {
-        owner,
+        scope,
         first,
         line,
         fixed,
     } = heading;
-    match owner {
-        Owner::Outer(items) => end_outside(items, first, line, fixed, spec, names),
-        Owner::Inner {
+    match scope {
+        Scope::FileScope(items) => end_outside(items, first, line, fixed, spec, names),
+        Scope::BlockScope {
             first: block,
             line: at,
             items,
-            frames,
+            pending,
         } => {
             let local = local(alloc, first, line, fixed, spec, names)?;
-            end_inside(block, at, items, frames, local)
+            end_inside(block, at, items, pending, local)
         }
-        Owner::Start {
+        Scope::ForScope {
             first: begin,
             line: at,
-            frames,
+            pending,
         } => {
             let local = local(alloc, first, line, fixed, spec, names)?;
-            Ok(State::Optional(Use::ForTest {
+            Ok(State::Optional(ExprContext::ForTest {
                 first: begin,
                 line: at,
                 start: ForStart::Local(local),
-                frames,
+                pending,
             }))
         }
     }
@@ -230,7 +231,7 @@ pub fn next_name(
 pub fn declare(
     alloc: Global,
     kind: &TokenKind,
-    place: Place,
+    place: TokenMark,
     declaration: Declaration,
     stars: u32,
 ) -> Result<Option<State>, NoMemory>
@@ -272,7 +273,7 @@ fn declares_tag(spec: &Spec) -> bool
 fn first_name(
     alloc: Global,
     kind: &TokenKind,
-    place: Place,
+    place: TokenMark,
     declaration: Declaration,
 ) -> Result<Option<State>, NoMemory>
     ensures { IfOk result (λ s. Reaches s (first_name_of (mark place) kind.now (declaration_of declaration))) }
@@ -293,14 +294,14 @@ fn first_name(
 pub fn specified(
     alloc: Global,
     kind: &TokenKind,
-    place: Place,
-    use_: SpecUse,
+    place: TokenMark,
+    context: SpecContext,
     spec: Spec,
 ) -> Result<Option<State>, NoMemory>
-    ensures { IfOk result (λ s. Reaches s (specified_of (mark place) kind.now (spec_use_of use_) (Some (spec_tree spec)))) }
+    ensures { IfOk result (λ s. Reaches s (specified_of (mark place) kind.now (spec_context_of context) (Some (spec_tree spec)))) }
 {
-    match use_ {
-        SpecUse::Declaration(heading) => {
+    match context {
+        SpecContext::Declaration(heading) => {
             let declaration = Declaration {
                 heading,
                 spec,
@@ -308,7 +309,7 @@ pub fn specified(
             };
             first_name(alloc, kind, place, declaration)
         }
-        SpecUse::Param {
+        SpecContext::Param {
             listing,
             first,
             line,

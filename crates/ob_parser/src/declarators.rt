@@ -1,14 +1,14 @@
 ghost use Rattle.std.specs.Prelude.{◌≡◌, IfOk};
 ghost use Rattle.ob_tree.specs.Trees.{ObjTree};
 ghost use Rattle.ob_tree.specs.ExpressionView.{dim_trees, obj_tree};
-ghost use Rattle.ob_tree.proofs.ProgramMachine.{after_dims as after_dims_of, after_name as after_name_of, next_name as next_name_of, parameters as parameters_of};
-ghost use Rattle.ob_tree.proofs.ProgramParts.{add_name as add_name_of, bare as bare_of, has_dims as has_dims_of, has_lengths as has_lengths_of};
-ghost use Rattle.ob_parser.specs.Steps.{Reaches};
-ghost use Rattle.ob_parser.specs.View.{declarator_of, head_of, owner_of};
+ghost use Rattle.ob_tree.specs.ProgramMachine.{after_dims as after_dims_of, after_name as after_name_of, next_name as next_name_of, parameters as parameters_of};
+ghost use Rattle.ob_tree.specs.ProgramParts.{add_name as add_name_of, bare as bare_of, has_dims as has_dims_of, has_lengths as has_lengths_of};
+ghost use Rattle.ob_parser.specs.Shifts.{Reaches};
+ghost use Rattle.ob_parser.specs.View.{declarator_of, head_of, scope_of};
 
 use crate::declarations::{add_name, next_name};
 use crate::params::after_param;
-use crate::state::{Declarator, Head, Listing, Owner, State, Target, Use};
+use crate::state::{Declarator, ExprContext, Head, InitDeclarator, ParamList, Scope, State};
 use ob_base::{NoMemory, Text};
 use ob_tree::{Dim, FileDecl, ObjDecl, Param, Sign, TokenKind};
 use std::alloc::Global;
@@ -70,15 +70,15 @@ fn end_name(
 
 /// The opening parenthesis of parameters, which only an external declaration has.
 fn parameters(alloc: Global, declarator: Declarator) -> Option<State>
-    ensures { Reaches result (parameters_of (owner_of declarator.declaration.heading.owner) (declarator_of declarator)) }
+    ensures { Reaches result (parameters_of (scope_of declarator.declaration.heading.scope) (declarator_of declarator)) }
 {
-    match &declarator.declaration.heading.owner {
-        Owner::Outer(_) => Some(State::Params(Listing {
+    match &declarator.declaration.heading.scope {
+        Scope::FileScope(_) => Some(State::Params(ParamList {
             function: declarator,
             params: Vec::new(alloc),
         })),
-        Owner::Inner { .. } => None,
-        Owner::Start { .. } => None,
+        Scope::BlockScope { .. } => None,
+        Scope::ForScope { .. } => None,
     }
 }
 
@@ -92,12 +92,12 @@ fn after_name(
     ensures { IfOk result (λ s. Reaches s (after_name_of kind.now (declarator_of declarator) (dim_trees dims.items))) }
 {
     match kind {
-        TokenKind::Sign(Sign::OpenBracket) => Ok(Some(State::Optional(Use::Length {
+        TokenKind::Sign(Sign::OpenBracket) => Ok(Some(State::Optional(ExprContext::Length {
             head: Head::Name(declarator),
             dims,
         }))),
         TokenKind::Sign(Sign::Assign) => Ok(Some(State::Init(
-            Target { declarator, dims },
+            InitDeclarator { declarator, dims },
             Vec::new(alloc),
         ))),
         TokenKind::Sign(Sign::OpenParen) => {

@@ -1,16 +1,16 @@
 ghost use Rattle.std.specs.Prelude.{◌≡◌, IfOk, map, option_map};
 ghost use Rattle.ob_tree.specs.ProgramView.{item_tree, program_tree, stmt_tree};
-ghost use Rattle.ob_tree.proofs.ProgramMachine.{after_whole as after_whole_of, define as define_of, done as done_of, finish as finish_of, to_else as to_else_of, whole as whole_of};
-ghost use Rattle.ob_tree.proofs.ProgramParts.{at_while as at_while_of};
+ghost use Rattle.ob_tree.specs.ProgramMachine.{after_whole as after_whole_of, define as define_of, done as done_of, finish as finish_of, to_else as to_else_of, whole as whole_of};
+ghost use Rattle.ob_tree.specs.ProgramParts.{at_while as at_while_of};
 ghost use Rattle.ob_parser.specs.Statements.{else_at, is_else as is_else_of};
-ghost use Rattle.ob_parser.specs.Steps.{Leads, Reaches, state_of};
-ghost use Rattle.ob_parser.specs.View.{definition_of, frames_of, mark};
+ghost use Rattle.ob_parser.specs.Shifts.{Leads, Reaches, state_of};
+ghost use Rattle.ob_parser.specs.View.{definition_of, pending_stmts_of, mark};
 
 use crate::closing::close;
 use crate::declarations::{begin_declaration, push_item};
-use crate::frames::{pop_frame, push_frame};
 use crate::nodes::add_statement;
-use crate::state::{Definition, Frame, Owner, Place, State, Step, Use, stepped};
+use crate::pending::{pop_pending, push_pending};
+use crate::state::{Definition, ExprContext, PendingStmt, Scope, Shift, State, TokenMark, shifted};
 use crate::statements::block_item;
 use ob_base::NoMemory;
 use ob_tree::{Item, ItemNode, Keyword, Program, Stmt, TokenKind};
@@ -49,31 +49,31 @@ fn define(definition: Definition, body: Stmt) -> Result<Vec<Item>, NoMemory>
 }
 
 /// An `else` behind a statement that makes no other whole but an `if`.
-fn else_behind(then: Stmt, frames: Vec<Frame>) -> Result<Option<State>, NoMemory>
-    ensures { IfOk result (λ o. Reaches o (else_at (stmt_tree then) (frames_of frames.items))) }
+fn else_behind(then: Stmt, pending: Vec<PendingStmt>) -> Result<Option<State>, NoMemory>
+    ensures { IfOk result (λ o. Reaches o (else_at (stmt_tree then) (pending_stmts_of pending.items))) }
 {
-    let mut frames = frames;
-    match pop_frame(&mut frames) {
-        Some(Frame::If { first, line, test }) => {
-            let frame = Frame::Else {
+    let mut pending = pending;
+    match pop_pending(&mut pending) {
+        Some(PendingStmt::If { first, line, test }) => {
+            let parent = PendingStmt::Else {
                 first,
                 line,
                 test,
                 then,
             };
-            push_frame(&mut frames, frame)?;
-            Ok(Some(State::Begin(frames)))
+            push_pending(&mut pending, parent)?;
+            Ok(Some(State::Begin(pending)))
         }
         _ => Ok(None),
     }
 }
 
 /// An `else` behind a whole statement: it goes to the nearest `if` that has none.
-fn to_else(alloc: Global, stmt: Stmt, frames: Vec<Frame>) -> Result<Option<State>, NoMemory>
-    ensures { IfOk result (λ o. Reaches o (to_else_of (stmt_tree stmt) (frames_of frames.items))) }
+fn to_else(alloc: Global, stmt: Stmt, pending: Vec<PendingStmt>) -> Result<Option<State>, NoMemory>
+    ensures { IfOk result (λ o. Reaches o (to_else_of (stmt_tree stmt) (pending_stmts_of pending.items))) }
 {
-    let (then, frames) = close(alloc, stmt, frames, false)?;
-    else_behind(then, frames)
+    let (then, pending) = close(alloc, stmt, pending, false)?;
+    else_behind(then, pending)
 }
 
 fn at_while(kind: &TokenKind, state: State) -> Option<State>
@@ -90,32 +90,32 @@ fn at_while(kind: &TokenKind, state: State) -> Option<State>
 fn after_whole(
     alloc: Global,
     kind: &TokenKind,
-    place: Place,
+    place: TokenMark,
     stmt: Stmt,
-    frames: Vec<Frame>,
-) -> Result<Step, NoMemory>
-    ensures { IfOk result (λ s. Leads (mark place) kind.now s (after_whole_of (mark place) kind.now (stmt_tree stmt) (frames_of frames.items))) }
+    pending: Vec<PendingStmt>,
+) -> Result<Shift, NoMemory>
+    ensures { IfOk result (λ s. Leads (mark place) kind.now s (after_whole_of (mark place) kind.now (stmt_tree stmt) (pending_stmts_of pending.items))) }
 {
-    let mut frames = frames;
-    match pop_frame(&mut frames) {
-        Some(Frame::Block { first, line, items }) => {
+    let mut pending = pending;
+    match pop_pending(&mut pending) {
+        Some(PendingStmt::Block { first, line, items }) => {
             let items = add_statement(items, stmt)?;
-            block_item(alloc, kind, place, first, line, items, frames)
+            block_item(alloc, kind, place, first, line, items, pending)
         }
-        Some(Frame::Do { first, line }) => {
-            let state = State::Opening(Use::DoTest {
+        Some(PendingStmt::Do { first, line }) => {
+            let state = State::Opening(ExprContext::DoTest {
                 first,
                 line,
                 body: stmt,
-                frames,
+                pending,
             });
-            Ok(stepped(at_while(kind, state)))
+            Ok(shifted(at_while(kind, state)))
         }
-        Some(Frame::Body(definition)) => {
+        Some(PendingStmt::Body(definition)) => {
             let items = define(definition, stmt)?;
-            Ok(begin_declaration(kind, place, Owner::Outer(items)))
+            Ok(begin_declaration(kind, place, Scope::FileScope(items)))
         }
-        _ => Ok(Step::Stuck),
+        _ => Ok(Shift::Rejected),
     }
 }
 
@@ -133,26 +133,26 @@ fn is_else(kind: &TokenKind) -> bool
 pub fn done(
     alloc: Global,
     kind: &TokenKind,
-    place: Place,
+    place: TokenMark,
     stmt: Stmt,
-    frames: Vec<Frame>,
-) -> Result<Step, NoMemory>
-    ensures { IfOk result (λ s. Leads (mark place) kind.now s (done_of (mark place) kind.now (stmt_tree stmt) (frames_of frames.items))) }
+    pending: Vec<PendingStmt>,
+) -> Result<Shift, NoMemory>
+    ensures { IfOk result (λ s. Leads (mark place) kind.now s (done_of (mark place) kind.now (stmt_tree stmt) (pending_stmts_of pending.items))) }
 {
     if is_else(kind) {
-        return Ok(stepped(to_else(alloc, stmt, frames)?));
+        return Ok(shifted(to_else(alloc, stmt, pending)?));
     }
-    let (stmt, frames) = close(alloc, stmt, frames, true)?;
-    after_whole(alloc, kind, place, stmt, frames)
+    let (stmt, pending) = close(alloc, stmt, pending, true)?;
+    after_whole(alloc, kind, place, stmt, pending)
 }
 
 /// The program, where the statement is a function's body.
-fn whole(stmt: Stmt, frames: Vec<Frame>) -> Result<Option<Program>, NoMemory>
-    ensures { IfOk result (λ o. option_map program_tree o ≡ whole_of (stmt_tree stmt) (frames_of frames.items)) }
+fn whole(stmt: Stmt, pending: Vec<PendingStmt>) -> Result<Option<Program>, NoMemory>
+    ensures { IfOk result (λ o. option_map program_tree o ≡ whole_of (stmt_tree stmt) (pending_stmts_of pending.items)) }
 {
-    let mut frames = frames;
-    match pop_frame(&mut frames) {
-        Some(Frame::Body(definition)) => {
+    let mut pending = pending;
+    match pop_pending(&mut pending) {
+        Some(PendingStmt::Body(definition)) => {
             let items = define(definition, stmt)?;
             Ok(Some(Program { items }))
         }
@@ -173,9 +173,9 @@ pub fn finish(alloc: Global, state: State) -> Result<Option<Program>, NoMemory>
             }
             Ok(Some(Program { items }))
         }
-        State::Done(stmt, frames) => {
-            let (stmt, frames) = close(alloc, stmt, frames, true)?;
-            whole(stmt, frames)
+        State::Done(stmt, pending) => {
+            let (stmt, pending) = close(alloc, stmt, pending, true)?;
+            whole(stmt, pending)
         }
         _ => Ok(None),
     }

@@ -1,14 +1,14 @@
 ghost use Rattle.std.specs.Prelude.{◌≡◌, [], IfOk};
 ghost use Rattle.ob_tree.specs.Trees.{InitTree, ObjTree};
 ghost use Rattle.ob_tree.specs.ExpressionView.{dim_trees, init_tree, obj_tree};
-ghost use Rattle.ob_tree.proofs.ProgramMachine.{initialised as initialised_of, last_comma as last_comma_of, next_init as next_init_of};
-ghost use Rattle.ob_tree.proofs.ProgramParts.{add_init as add_init_of, has_items as has_items_of};
-ghost use Rattle.ob_parser.specs.Steps.{Reaches};
-ghost use Rattle.ob_parser.specs.View.{brace_of, braces_of, init_trees, target_of};
+ghost use Rattle.ob_tree.specs.ProgramMachine.{initialised as initialised_of, last_comma as last_comma_of, next_init as next_init_of};
+ghost use Rattle.ob_tree.specs.ProgramParts.{add_init as add_init_of, has_items as has_items_of};
+ghost use Rattle.ob_parser.specs.Shifts.{Reaches};
+ghost use Rattle.ob_parser.specs.View.{init_list_of, init_lists_of, init_trees, init_declarator_of};
 
 use crate::declarations::{add_name, next_name};
-use crate::frames::{pop_braces, push_braces};
-use crate::state::{Braces, Declarator, State, Target};
+use crate::pending::{pop_init_list, push_init_list};
+use crate::state::{Declarator, InitDeclarator, InitList, State};
 use ob_base::{NoMemory, Text};
 use ob_tree::{Dim, FileDecl, Init, ObjDecl, Sign, TokenKind};
 use std::alloc::Global;
@@ -23,10 +23,10 @@ fn push_init(items: Vec<Init>, init: Init) -> Result<Vec<Init>, NoMemory>
 }
 
 /// The list in braces, behind its closing brace.
-fn closed_list(braces: Braces, comma: bool) -> Init
+fn closed_list(braces: InitList, comma: bool) -> Init
     ensures { init_tree result ≡ InitTree.Braces braces.first (init_trees braces.items.items) comma }
 {
-    let Braces { first, items } = braces;
+    let InitList { first, items } = braces;
     Init::List {
         first,
         items,
@@ -37,16 +37,16 @@ fn closed_list(braces: Braces, comma: bool) -> Init
 /// A token behind an initialiser in braces.
 fn next_init(
     kind: &TokenKind,
-    target: Target,
-    lists: Vec<Braces>,
-    braces: Braces,
+    target: InitDeclarator,
+    lists: Vec<InitList>,
+    braces: InitList,
 ) -> Result<Option<State>, NoMemory>
-    ensures { IfOk result (λ s. Reaches s (next_init_of kind.now (target_of target) (braces_of lists.items) (brace_of braces))) }
+    ensures { IfOk result (λ s. Reaches s (next_init_of kind.now (init_declarator_of target) (init_lists_of lists.items) (init_list_of braces))) }
 {
     match kind {
         TokenKind::Sign(Sign::Comma) => {
             let mut lists = lists;
-            push_braces(&mut lists, braces)?;
+            push_init_list(&mut lists, braces)?;
             Ok(Some(State::Init(target, lists)))
         }
         TokenKind::Sign(Sign::CloseBrace) => Ok(Some(State::AfterInit(
@@ -75,12 +75,12 @@ fn initial(stars: u32, name: Text, at: u32, dims: Vec<Dim>, init: Init) -> ObjDe
 fn end_name(
     alloc: Global,
     kind: &TokenKind,
-    target: Target,
+    target: InitDeclarator,
     init: Init,
 ) -> Result<Option<State>, NoMemory>
-    ensures { IfOk result (λ s. Reaches s (initialised_of kind.now (target_of target) [] (init_tree init))) }
+    ensures { IfOk result (λ s. Reaches s (initialised_of kind.now (init_declarator_of target) [] (init_tree init))) }
 {
-    let Target { declarator, dims } = target;
+    let InitDeclarator { declarator, dims } = target;
     let Declarator {
         declaration,
         stars,
@@ -96,19 +96,19 @@ fn end_name(
 pub fn initialised(
     alloc: Global,
     kind: &TokenKind,
-    target: Target,
-    lists: Vec<Braces>,
+    target: InitDeclarator,
+    lists: Vec<InitList>,
     init: Init,
 ) -> Result<Option<State>, NoMemory>
-    ensures { IfOk result (λ s. Reaches s (initialised_of kind.now (target_of target) (braces_of lists.items) (init_tree init))) }
+    ensures { IfOk result (λ s. Reaches s (initialised_of kind.now (init_declarator_of target) (init_lists_of lists.items) (init_tree init))) }
 {
     let mut lists = lists;
-    match pop_braces(&mut lists) {
+    match pop_init_list(&mut lists) {
         None => end_name(alloc, kind, target, init),
         Some(braces) => {
-            let Braces { first, items } = braces;
+            let InitList { first, items } = braces;
             let items = push_init(items, init)?;
-            next_init(kind, target, lists, Braces { first, items })
+            next_init(kind, target, lists, InitList { first, items })
         }
     }
 }
@@ -122,11 +122,11 @@ pub fn has_items(items: &Vec<Init>) -> bool
 }
 
 /// The closing brace behind the last comma of an initialiser list.
-pub fn last_comma(kind: &TokenKind, target: Target, lists: Vec<Braces>) -> Option<State>
-    ensures { Reaches result (last_comma_of kind.now (target_of target) (braces_of lists.items)) }
+pub fn last_comma(kind: &TokenKind, target: InitDeclarator, lists: Vec<InitList>) -> Option<State>
+    ensures { Reaches result (last_comma_of kind.now (init_declarator_of target) (init_lists_of lists.items)) }
 {
     let mut lists = lists;
-    let braces = pop_braces(&mut lists)?;
+    let braces = pop_init_list(&mut lists)?;
     if !has_items(&braces.items) {
         return None;
     }

@@ -2,7 +2,7 @@ ghost use Rattle.std.specs.Prelude.{◌≡◌, IfOk};
 ghost use Rattle.ob_tree.specs.Programs.{StmtTree};
 ghost use Rattle.ob_tree.specs.ExpressionView.{expr_tree};
 ghost use Rattle.ob_tree.specs.ProgramView.{option_tree, start_tree, stmt_tree};
-ghost use Rattle.ob_tree.proofs.ProgramParts.{add_statement as add_statement_of};
+ghost use Rattle.ob_tree.specs.ProgramParts.{add_statement as add_statement_of};
 ghost use Rattle.ob_parser.specs.View.{block_trees};
 
 use ob_base::NoMemory;
@@ -40,13 +40,13 @@ pub fn add_statement(items: Vec<BlockItem>, stmt: Stmt) -> Result<Vec<BlockItem>
 }
 
 /// An expression statement, or the null statement.
-pub fn expression(first: u32, line: u32, expr: Option<Expr>) -> Stmt
+pub fn expr_stmt(first: u32, line: u32, expr: Option<Expr>) -> Stmt
     ensures { stmt_tree result ≡ StmtTree.Expr first line (option_tree expr) }
 {
     placed(first, line, StmtNode::Expr(expr))
 }
 
-pub fn if_alone(
+pub fn if_stmt(
     alloc: Global,
     first: u32,
     line: u32,
@@ -59,7 +59,7 @@ pub fn if_alone(
     Ok(placed(first, line, StmtNode::If(test, then, None)))
 }
 
-pub fn if_else(
+pub fn if_else_stmt(
     alloc: Global,
     first: u32,
     line: u32,
@@ -74,7 +74,7 @@ pub fn if_else(
     Ok(placed(first, line, StmtNode::If(test, then, Some(other))))
 }
 
-pub fn while_loop(
+pub fn while_stmt(
     alloc: Global,
     first: u32,
     line: u32,
@@ -87,7 +87,7 @@ pub fn while_loop(
     Ok(placed(first, line, StmtNode::While(test, body)))
 }
 
-pub fn do_loop(
+pub fn do_stmt(
     alloc: Global,
     first: u32,
     line: u32,
@@ -100,7 +100,7 @@ pub fn do_loop(
     Ok(placed(first, line, StmtNode::Do(body, test)))
 }
 
-pub fn for_loop(
+pub fn for_stmt(
     alloc: Global,
     first: u32,
     line: u32,
@@ -122,19 +122,19 @@ pub fn for_loop(
     Ok(placed(first, line, node))
 }
 
-pub fn break_away(first: u32, line: u32) -> Stmt
+pub fn break_stmt(first: u32, line: u32) -> Stmt
     ensures { stmt_tree result ≡ StmtTree.Break first line }
 {
     placed(first, line, StmtNode::Break)
 }
 
-pub fn continue_on(first: u32, line: u32) -> Stmt
+pub fn continue_stmt(first: u32, line: u32) -> Stmt
     ensures { stmt_tree result ≡ StmtTree.Continue first line }
 {
     placed(first, line, StmtNode::Continue)
 }
 
-pub fn give_back(first: u32, line: u32, value: Option<Expr>) -> Stmt
+pub fn return_stmt(first: u32, line: u32, value: Option<Expr>) -> Stmt
     ensures { stmt_tree result ≡ StmtTree.Return first line (option_tree value) }
 {
     placed(first, line, StmtNode::Return(value))

@@ -4,28 +4,28 @@ ghost use Rattle.ob_tree.specs.Programs.{BlockTrees};
 ghost use Rattle.ob_tree.specs.ExpressionView.{dim_trees, spec_tree};
 ghost use Rattle.ob_tree.specs.ProgramValid.{is_void_alone as is_void_alone_of};
 ghost use Rattle.ob_tree.specs.ProgramView.{file_tree, param_tree, params_tree};
-ghost use Rattle.ob_tree.proofs.ProgramStates.{InBlock, InBody, OfParam};
-ghost use Rattle.ob_tree.proofs.ProgramMachine.{after_dims as after_dims_of, after_param as after_param_of, begin_body as begin_body_of, begin_param as begin_param_of, closed as closed_of, first_param as first_param_of, next_param as next_param_of, param as param_of};
-ghost use Rattle.ob_tree.proofs.ProgramParts.{add_param as add_param_of, are_all_named as are_all_named_of, are_named as are_named_of, is_first as is_first_of, params_of as params_tree_of};
-ghost use Rattle.ob_parser.specs.Steps.{Leads, Reaches};
-ghost use Rattle.ob_parser.specs.View.{declarator_of, definition_of, frames_of, listing_of, mark, owner_of};
+ghost use Rattle.ob_tree.specs.ProgramStates.{InBlock, InBody, OfParam};
+ghost use Rattle.ob_tree.specs.ProgramMachine.{after_dims as after_dims_of, after_param as after_param_of, begin_body as begin_body_of, begin_param as begin_param_of, closed as closed_of, first_param as first_param_of, next_param as next_param_of, param as param_of};
+ghost use Rattle.ob_tree.specs.ProgramParts.{add_param as add_param_of, are_all_named as are_all_named_of, are_named as are_named_of, is_first as is_first_of, params_of as params_tree_of};
+ghost use Rattle.ob_parser.specs.Shifts.{Leads, Reaches};
+ghost use Rattle.ob_parser.specs.View.{declarator_of, definition_of, pending_stmts_of, param_list_of, mark, scope_of};
 
 use crate::declarations::{add_name, copy_of, next_name};
 use crate::declarators::{after_dims, has_dims};
-use crate::frames::push_frame;
+use crate::pending::push_pending;
 use crate::state::{
-    Declaration, Declarator, Definition, Frame, Head, Heading, Listing, Owner, Place, SpecUse,
-    State, Step, Use,
+    Declaration, Declarator, Definition, ExprContext, Head, Heading, ParamList, PendingStmt, Scope,
+    Shift, SpecContext, State, TokenMark,
 };
 use ob_base::NoMemory;
 use ob_tree::{FileDecl, Param, Params, Sign, Spec, SpecNode, TokenKind};
 use std::alloc::Global;
 
 /// A parameter begins with the token.
-pub fn begin_param(kind: &TokenKind, place: Place, listing: Listing) -> Step
-    ensures { Leads (mark place) kind.now result (begin_param_of (mark place) kind.now (listing_of listing)) }
+pub fn begin_param(kind: &TokenKind, place: TokenMark, listing: ParamList) -> Shift
+    ensures { Leads (mark place) kind.now result (begin_param_of (mark place) kind.now (param_list_of listing)) }
 {
-    Step::Specifies(SpecUse::Param {
+    Shift::NeedsSpec(SpecContext::Param {
         listing,
         first: place.at,
         line: place.line,
@@ -33,13 +33,13 @@ pub fn begin_param(kind: &TokenKind, place: Place, listing: Listing) -> Step
 }
 
 /// Behind the opening parenthesis of parameters.
-pub fn first_param(kind: &TokenKind, place: Place, listing: Listing) -> Step
-    ensures { Leads (mark place) kind.now result (first_param_of (mark place) kind.now (listing_of listing)) }
+pub fn first_param(kind: &TokenKind, place: TokenMark, listing: ParamList) -> Shift
+    ensures { Leads (mark place) kind.now result (first_param_of (mark place) kind.now (param_list_of listing)) }
 {
     match kind {
         TokenKind::Sign(Sign::CloseParen) => {
-            let Listing { function, .. } = listing;
-            Step::Goes(State::Closed(function, Params::Empty))
+            let ParamList { function, .. } = listing;
+            Shift::Shifted(State::Closed(function, Params::Empty))
         }
         _ => begin_param(kind, place, listing),
     }
@@ -91,37 +91,37 @@ fn params_of(params: Vec<Param>) -> Params
 }
 
 /// Behind a parameter: a comma and the next one, or the closing parenthesis.
-fn next_param(kind: &TokenKind, listing: Listing) -> Option<State>
-    ensures { Reaches result (next_param_of kind.now (listing_of listing)) }
+fn next_param(kind: &TokenKind, listing: ParamList) -> Option<State>
+    ensures { Reaches result (next_param_of kind.now (param_list_of listing)) }
 {
     match kind {
         TokenKind::Sign(Sign::Comma) => Some(State::NextParam(listing)),
         TokenKind::Sign(Sign::CloseParen) => {
-            let Listing { function, params } = listing;
+            let ParamList { function, params } = listing;
             Some(State::Closed(function, params_of(params)))
         }
         _ => None,
     }
 }
 
-fn add_param(listing: Listing, param: Param) -> Result<Listing, NoMemory>
-    ensures { IfOk result (λ l. listing_of l ≡ add_param_of (listing_of listing) (param_tree param)) }
+fn add_param(listing: ParamList, param: Param) -> Result<ParamList, NoMemory>
+    ensures { IfOk result (λ l. param_list_of l ≡ add_param_of (param_list_of listing) (param_tree param)) }
 {
-    let Listing { function, params } = listing;
+    let ParamList { function, params } = listing;
     let mut params = params;
     params.push(param)?;
-    Ok(Listing { function, params })
+    Ok(ParamList { function, params })
 }
 
 /// Behind the brackets of a parameter.
 pub fn after_param(
     kind: &TokenKind,
-    listing: Listing,
+    listing: ParamList,
     param: Param,
 ) -> Result<Option<State>, NoMemory>
     ensures { IfOk result (λ s. Reaches s (after_param_of kind.now
-        (OfParam (listing_of listing) param.first param.line (spec_tree param.spec) param.stars param.name param.at)
-        (listing_of listing) (param_tree param) (dim_trees param.dims.items))) }
+        (OfParam (param_list_of listing) param.first param.line (spec_tree param.spec) param.stars param.name param.at)
+        (param_list_of listing) (param_tree param) (dim_trees param.dims.items))) }
 {
     match kind {
         TokenKind::Sign(Sign::OpenBracket) => {
@@ -143,7 +143,7 @@ pub fn after_param(
                 name,
                 at,
             };
-            Ok(Some(State::Optional(Use::Length { head, dims })))
+            Ok(Some(State::Optional(ExprContext::Length { head, dims })))
         }
         _ => Ok(next_param(kind, add_param(listing, param)?)),
     }
@@ -153,13 +153,13 @@ pub fn after_param(
 fn unnamed(
     alloc: Global,
     kind: &TokenKind,
-    listing: Listing,
+    listing: ParamList,
     first: u32,
     line: u32,
     spec: Spec,
     stars: u32,
 ) -> Result<Option<State>, NoMemory>
-    ensures { IfOk result (λ s. Reaches s (after_dims_of kind.now (OfParam (listing_of listing) first line (spec_tree spec) stars None first) DimTrees.NoDims)) }
+    ensures { IfOk result (λ s. Reaches s (after_dims_of kind.now (OfParam (param_list_of listing) first line (spec_tree spec) stars None first) DimTrees.NoDims)) }
 {
     let head = Head::Param {
         listing,
@@ -177,15 +177,15 @@ fn unnamed(
 pub fn param(
     alloc: Global,
     kind: &TokenKind,
-    place: Place,
-    listing: Listing,
+    place: TokenMark,
+    listing: ParamList,
     first: u32,
     line: u32,
     spec: Spec,
     stars: u32,
 ) -> Result<Option<State>, NoMemory>
     requires { stars < 1000 }
-    ensures { IfOk result (λ s. Reaches s (param_of (mark place) kind.now (listing_of listing) first line (spec_tree spec) stars)) }
+    ensures { IfOk result (λ s. Reaches s (param_of (mark place) kind.now (param_list_of listing) first line (spec_tree spec) stars)) }
 {
     match kind {
         TokenKind::Sign(Sign::Star) => Ok(Some(State::Param {
@@ -243,30 +243,34 @@ fn is_first(names: &Vec<FileDecl>) -> bool
     names.len() == 0
 }
 
-/// The frames in the body of a function.
-fn body_frames(alloc: Global, place: Place, definition: Definition) -> Result<Vec<Frame>, NoMemory>
-    ensures { IfOk result (λ v. frames_of v.items
+/// The pending statements in the body of a function.
+fn pending_body(
+    alloc: Global,
+    place: TokenMark,
+    definition: Definition,
+) -> Result<Vec<PendingStmt>, NoMemory>
+    ensures { IfOk result (λ v. pending_stmts_of v.items
         ≡ InBlock place.at place.line BlockTrees.NoItems ∷ (InBody (definition_of definition) ∷ [])) }
 {
-    let block = Frame::Block {
+    let block = PendingStmt::Block {
         first: place.at,
         line: place.line,
         items: Vec::new(alloc),
     };
-    let mut frames = Vec::new(alloc);
-    push_frame(&mut frames, Frame::Body(definition))?;
-    push_frame(&mut frames, block)?;
-    Ok(frames)
+    let mut pending = Vec::new(alloc);
+    push_pending(&mut pending, PendingStmt::Body(definition))?;
+    push_pending(&mut pending, block)?;
+    Ok(pending)
 }
 
 /// The body of a function begins, which only an external declaration has.
 fn begin_body(
     alloc: Global,
-    place: Place,
+    place: TokenMark,
     declarator: Declarator,
     params: Params,
 ) -> Result<Option<State>, NoMemory>
-    ensures { IfOk result (λ s. Reaches s (begin_body_of (mark place) (owner_of declarator.declaration.heading.owner) (declarator_of declarator) (params_tree params))) }
+    ensures { IfOk result (λ s. Reaches s (begin_body_of (mark place) (scope_of declarator.declaration.heading.scope) (declarator_of declarator) (params_tree params))) }
 {
     let Declarator {
         declaration,
@@ -276,13 +280,13 @@ fn begin_body(
     } = declarator;
     let Declaration { heading, spec, .. } = declaration;
     let Heading {
-        owner,
+        scope,
         first,
         line,
         fixed,
     } = heading;
-    match owner {
-        Owner::Outer(items) => {
+    match scope {
+        Scope::FileScope(items) => {
             let definition = Definition {
                 items,
                 first,
@@ -294,10 +298,10 @@ fn begin_body(
                 at,
                 params,
             };
-            Ok(Some(State::Begin(body_frames(alloc, place, definition)?)))
+            Ok(Some(State::Begin(pending_body(alloc, place, definition)?)))
         }
-        Owner::Inner { .. } => Ok(None),
-        Owner::Start { .. } => Ok(None),
+        Scope::BlockScope { .. } => Ok(None),
+        Scope::ForScope { .. } => Ok(None),
     }
 }
 
@@ -305,7 +309,7 @@ fn begin_body(
 pub fn closed(
     alloc: Global,
     kind: &TokenKind,
-    place: Place,
+    place: TokenMark,
     declarator: Declarator,
     params: Params,
 ) -> Result<Option<State>, NoMemory>

@@ -2,16 +2,16 @@ ghost use Rattle.std.specs.Prelude.{◌≡◌, ◌<◌, ◌≤◌, ◌^◌, leng
 ghost use Rattle.std.specs.List.{All};
 ghost use Rattle.ob_tree.specs.declared.faults.SyntaxFault.TheVariants as syntax;
 ghost use Rattle.ob_tree.specs.Valid.{IsOfSource};
-ghost use Rattle.ob_parser.specs.Reads.{AwaitsExpr, AwaitsSpec, IsRead, Kept, Turned, begins_spec as begins_spec_of};
-ghost use Rattle.ob_parser.specs.Steps.{state_of};
-ghost use Rattle.ob_parser.specs.View.{spec_use_of, use_of};
+ghost use Rattle.ob_parser.specs.ReadTokens.{AwaitsExpr, AwaitsSpec, IsRead, Kept, Turned, begins_spec as begins_spec_of};
+ghost use Rattle.ob_parser.specs.Shifts.{state_of};
+ghost use Rattle.ob_parser.specs.View.{spec_context_of, expr_context_of};
 
+use crate::contexts::used;
 use crate::declarations::specified;
-use crate::newest::{depth_of_expr, level_of, newest, spec_depth};
-use crate::state::{Place, SpecUse, State, Step, Use};
+use crate::paths::{depth_of_expr, level_of, newest_path, spec_depth};
+use crate::shifts::shift;
+use crate::state::{ExprContext, Shift, SpecContext, State, TokenMark};
 use crate::statements::begins_spec;
-use crate::steps::step;
-use crate::uses::used;
 use ob_exprs::{parse_expr, parse_spec};
 use ob_tree::{SyntaxFault, Token, TokenKind};
 use std::alloc::Global;
@@ -32,29 +32,35 @@ fn after_expr(
     alloc: Global,
     tokens: &Vec<Token>,
     from: usize,
-    use_: Use,
+    context: ExprContext,
 ) -> Result<(State, usize), SyntaxFault>
     requires few { length tokens.now.items ≤ 2 ^ 20 }
     requires of_source { All (λ t. IsOfSource t.kind) tokens.now.items }
     requires from_in { from < length tokens.now.items }
-    requires awaits { AwaitsExpr tokens.now.items from (use_of use_) }
+    requires awaits { AwaitsExpr tokens.now.items from (expr_context_of context) }
     ensures { Turned tokens.now.items from result }
 {
-    let (expr, at) = parse_expr(alloc, tokens, from, depth_of_expr(&use_), level_of(&use_))?;
+    let (expr, at) = parse_expr(
+        alloc,
+        tokens,
+        from,
+        depth_of_expr(&context),
+        level_of(&context),
+    )?;
     let Some(token) = token_at(tokens, at) else {
         return Err(SyntaxFault::NoTree(at as u32));
     };
-    match used(alloc, &token.kind, use_, Some(expr))? {
+    match used(alloc, &token.kind, context, Some(expr))? {
         Some(next) => Ok((next, at)),
         None => Err(SyntaxFault::NoTree(at as u32)),
     }
 }
 
 /// The fault at a token where no node may stand: a specifier that begins with it is too deep.
-fn deep_spec(use_: SpecUse, kind: &TokenKind, at: u32) -> SyntaxFault
+fn deep_spec(context: SpecContext, kind: &TokenKind, at: u32) -> SyntaxFault
     ensures { result ≡ (if begins_spec_of kind.now then syntax.TooDeep at else syntax.NoTree at) }
 {
-    let _unread = use_;
+    let _unread = context;
     match kind {
         TokenKind::Word(word) if begins_spec(*word) => SyntaxFault::TooDeep(at),
         _ => SyntaxFault::NoTree(at),
@@ -67,27 +73,27 @@ fn after_spec(
     alloc: Global,
     tokens: &Vec<Token>,
     from: usize,
-    use_: SpecUse,
+    context: SpecContext,
 ) -> Result<(State, usize), SyntaxFault>
     requires few { length tokens.now.items ≤ 2 ^ 20 }
     requires of_source { All (λ t. IsOfSource t.kind) tokens.now.items }
     requires from_in { from < length tokens.now.items }
-    requires awaits { AwaitsSpec tokens.now.items from (spec_use_of use_) }
+    requires awaits { AwaitsSpec tokens.now.items from (spec_context_of context) }
     ensures { Turned tokens.now.items from result }
 {
-    let depth = spec_depth(&use_);
+    let depth = spec_depth(&context);
     if LIMIT < depth {
-        return Err(deep_spec(use_, &tokens[from].kind, from as u32));
+        return Err(deep_spec(context, &tokens[from].kind, from as u32));
     }
     let (spec, at) = parse_spec(alloc, tokens, from, depth as u32)?;
     let Some(token) = token_at(tokens, at) else {
         return Err(SyntaxFault::NoTree(at as u32));
     };
-    let place = Place {
+    let place = TokenMark {
         at: at as u32,
         line: token.span.line,
     };
-    match specified(alloc, &token.kind, place, use_, spec)? {
+    match specified(alloc, &token.kind, place, context, spec)? {
         Some(next) => Ok((next, at)),
         None => Err(SyntaxFault::NoTree(at as u32)),
     }
@@ -108,15 +114,15 @@ fn turn(
     ensures { Turned tokens.now.items from result }
 {
     let token = &tokens[from];
-    let place = Place {
+    let place = TokenMark {
         at: from as u32,
         line: token.span.line,
     };
-    match step(alloc, &token.kind, place, state)? {
-        Step::Goes(next) => Ok((next, from)),
-        Step::Reads(use_) => after_expr(alloc, tokens, from, use_),
-        Step::Specifies(use_) => after_spec(alloc, tokens, from, use_),
-        Step::Stuck => Err(SyntaxFault::NoTree(from as u32)),
+    match shift(alloc, &token.kind, place, state)? {
+        Shift::Shifted(next) => Ok((next, from)),
+        Shift::NeedsExpr(context) => after_expr(alloc, tokens, from, context),
+        Shift::NeedsSpec(context) => after_spec(alloc, tokens, from, context),
+        Shift::Rejected => Err(SyntaxFault::NoTree(from as u32)),
     }
 }
 
@@ -138,7 +144,7 @@ pub fn read(alloc: Global, tokens: &Vec<Token>) -> Result<State, SyntaxFault>
     let mut place = 0;
     while place < tokens.len() {
         let (next, at) = turn(alloc, tokens, place, state)?;
-        if LIMIT < newest(&next) {
+        if LIMIT < newest_path(&next) {
             return Err(too_deep(next, at as u32));
         }
         state = next;

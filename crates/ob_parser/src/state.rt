@@ -1,12 +1,12 @@
 ghost use Rattle.std.specs.Prelude.{◌≡◌};
-ghost use Rattle.ob_parser.specs.Steps.{stepped as stepped_of};
+ghost use Rattle.ob_parser.specs.Shifts.{shifted as shifted_of};
 
 use ob_base::Text;
 use ob_tree::{BlockItem, Dim, Expr, FileDecl, ForStart, Init, Item, Param, Params, Spec, Stmt};
 
 /// Where a token stands: its place, counted from 0, and its line.
 #[derive(Clone, Copy, Debug, PartialEq, Eq)]
-pub struct Place {
+pub struct TokenMark {
     pub at: u32,
     pub line: u32,
 }
@@ -28,7 +28,7 @@ pub struct Definition {
 /// A statement or a function that waits for its last part. `first` and `line` are those of the
 /// statement's first token.
 #[derive(Drop)]
-pub enum Frame {
+pub enum PendingStmt {
     Body(Definition),
     Block {
         first: u32,
@@ -65,27 +65,27 @@ pub enum Frame {
 }
 
 /// Where a declaration stands: behind other external declarations, behind other items of a block,
-/// or first in a `for`. The frames are those of the statements round it, the innermost last.
+/// or first in a `for`. The pending statements are those of the statements round it, the innermost last.
 #[derive(Drop)]
-pub enum Owner {
-    Outer(Vec<Item>),
-    Inner {
+pub enum Scope {
+    FileScope(Vec<Item>),
+    BlockScope {
         first: u32,
         line: u32,
         items: Vec<BlockItem>,
-        frames: Vec<Frame>,
+        pending: Vec<PendingStmt>,
     },
-    Start {
+    ForScope {
         first: u32,
         line: u32,
-        frames: Vec<Frame>,
+        pending: Vec<PendingStmt>,
     },
 }
 
 /// A declaration that has begun; `fixed` says that `static` stands first.
 #[derive(Drop)]
 pub struct Heading {
-    pub owner: Owner,
+    pub scope: Scope,
     pub first: u32,
     pub line: u32,
     pub fixed: bool,
@@ -110,7 +110,7 @@ pub struct Declarator {
 
 /// A function declarator, with the parameters before this one.
 #[derive(Drop)]
-pub struct Listing {
+pub struct ParamList {
     pub function: Declarator,
     pub params: Vec<Param>,
 }
@@ -120,7 +120,7 @@ pub struct Listing {
 pub enum Head {
     Name(Declarator),
     Param {
-        listing: Listing,
+        listing: ParamList,
         first: u32,
         line: u32,
         spec: Spec,
@@ -132,24 +132,24 @@ pub enum Head {
 
 /// A declarator that is initialised.
 #[derive(Drop)]
-pub struct Target {
+pub struct InitDeclarator {
     pub declarator: Declarator,
     pub dims: Vec<Dim>,
 }
 
 /// An initialiser list that has begun, with the items before this one.
 #[derive(Drop)]
-pub struct Braces {
+pub struct InitList {
     pub first: u32,
     pub items: Vec<Init>,
 }
 
 /// What a specifier is read for.
 #[derive(Drop)]
-pub enum SpecUse {
+pub enum SpecContext {
     Declaration(Heading),
     Param {
-        listing: Listing,
+        listing: ParamList,
         first: u32,
         line: u32,
     },
@@ -157,50 +157,50 @@ pub enum SpecUse {
 
 /// What an expression is read for.
 #[derive(Drop)]
-pub enum Use {
+pub enum ExprContext {
     Statement {
         first: u32,
         line: u32,
-        frames: Vec<Frame>,
+        pending: Vec<PendingStmt>,
     },
     IfTest {
         first: u32,
         line: u32,
-        frames: Vec<Frame>,
+        pending: Vec<PendingStmt>,
     },
     WhileTest {
         first: u32,
         line: u32,
-        frames: Vec<Frame>,
+        pending: Vec<PendingStmt>,
     },
     DoTest {
         first: u32,
         line: u32,
         body: Stmt,
-        frames: Vec<Frame>,
+        pending: Vec<PendingStmt>,
     },
     ForStart {
         first: u32,
         line: u32,
-        frames: Vec<Frame>,
+        pending: Vec<PendingStmt>,
     },
     ForTest {
         first: u32,
         line: u32,
         start: ForStart,
-        frames: Vec<Frame>,
+        pending: Vec<PendingStmt>,
     },
     ForNext {
         first: u32,
         line: u32,
         start: ForStart,
         test: Option<Expr>,
-        frames: Vec<Frame>,
+        pending: Vec<PendingStmt>,
     },
     Return {
         first: u32,
         line: u32,
-        frames: Vec<Frame>,
+        pending: Vec<PendingStmt>,
     },
     /// An array length, behind these brackets.
     Length {
@@ -209,8 +209,8 @@ pub enum Use {
     },
     /// An initialiser, within these lists, the innermost last.
     Item {
-        target: Target,
-        lists: Vec<Braces>,
+        target: InitDeclarator,
+        lists: Vec<InitList>,
     },
 }
 
@@ -220,26 +220,26 @@ pub enum State {
     /// An external declaration comes, or the end.
     Items(Vec<Item>),
     /// A specifier comes.
-    Specifying(SpecUse),
+    Specifying(SpecContext),
     /// A declarator's stars were read.
     Declare(Declaration, u32),
     /// A row of brackets was read.
     Dims(Head, Vec<Dim>),
     /// An expression comes, or nothing.
-    Optional(Use),
+    Optional(ExprContext),
     /// An expression comes.
-    Reading(Use),
+    Reading(ExprContext),
     /// An initialiser comes.
-    Init(Target, Vec<Braces>),
+    Init(InitDeclarator, Vec<InitList>),
     /// A list of initialisers was read whole.
-    AfterInit(Target, Vec<Braces>, Init),
+    AfterInit(InitDeclarator, Vec<InitList>, Init),
     /// The opening parenthesis of parameters was read.
-    Params(Listing),
+    Params(ParamList),
     /// A comma was read behind a parameter.
-    NextParam(Listing),
+    NextParam(ParamList),
     /// A parameter's specifier and stars were read.
     Param {
-        listing: Listing,
+        listing: ParamList,
         first: u32,
         line: u32,
         spec: Spec,
@@ -248,45 +248,45 @@ pub enum State {
     /// The closing parenthesis of parameters was read.
     Closed(Declarator, Params),
     /// A statement comes or, in a block, a declaration or the block's end.
-    Begin(Vec<Frame>),
+    Begin(Vec<PendingStmt>),
     /// The parenthesis before a test comes.
-    Opening(Use),
+    Opening(ExprContext),
     /// `for` was read.
     ForWord {
         first: u32,
         line: u32,
-        frames: Vec<Frame>,
+        pending: Vec<PendingStmt>,
     },
     /// `for` and its opening parenthesis were read.
     ForOpen {
         first: u32,
         line: u32,
-        frames: Vec<Frame>,
+        pending: Vec<PendingStmt>,
     },
     /// A statement was read but for its semicolon.
-    Semi(Stmt, Vec<Frame>),
+    Semi(Stmt, Vec<PendingStmt>),
     /// A statement was read; it may be the last part of others that have begun.
-    Done(Stmt, Vec<Frame>),
+    Done(Stmt, Vec<PendingStmt>),
 }
 
 /// What one token leads to.
 #[derive(Drop)]
-pub enum Step {
-    Goes(State),
+pub enum Shift {
+    Shifted(State),
     /// An expression for this begins with the token, if any does.
-    Reads(Use),
+    NeedsExpr(ExprContext),
     /// A specifier for this begins with the token, if any does.
-    Specifies(SpecUse),
+    NeedsSpec(SpecContext),
     /// No program goes on so.
-    Stuck,
+    Rejected,
 }
 
-/// The step to a state, or none.
-pub fn stepped(state: Option<State>) -> Step
-    ensures { result ≡ stepped_of state }
+/// The shift to a state, or none.
+pub fn shifted(state: Option<State>) -> Shift
+    ensures { result ≡ shifted_of state }
 {
     match state {
-        Some(state) => Step::Goes(state),
-        None => Step::Stuck,
+        Some(state) => Shift::Shifted(state),
+        None => Shift::Rejected,
     }
 }

@@ -1,16 +1,18 @@
 ghost use Rattle.std.specs.Prelude.{◌≡◌, ◌∷◌, IfOk};
-ghost use Rattle.ob_tree.proofs.Machine.{is_spec_word};
-ghost use Rattle.ob_tree.proofs.ProgramStates.{InBlock};
-ghost use Rattle.ob_tree.proofs.ProgramMachine.{begin as begin_of, begins_declaration as begins_declaration_of, block_item as block_item_of, for_start as for_start_of, statement as statement_of};
+ghost use Rattle.ob_tree.specs.ExprMachine.{is_spec_word};
+ghost use Rattle.ob_tree.specs.ProgramStates.{InBlock};
+ghost use Rattle.ob_tree.specs.ProgramMachine.{begin as begin_of, begins_declaration as begins_declaration_of, block_item as block_item_of, for_start as for_start_of, statement as statement_of};
 ghost use Rattle.ob_parser.specs.Statements.{begins_local as begins_local_of, begins_statement as begins_statement_of, begins_type as begins_type_of, begun as begun_of, ends_block as ends_block_of, is_statement_word as is_statement_word_of, word_begun as word_begun_of};
-ghost use Rattle.ob_parser.specs.Steps.{Leads, Reaches};
-ghost use Rattle.ob_parser.specs.View.{block_trees, frames_of, mark};
+ghost use Rattle.ob_parser.specs.Shifts.{Leads, Reaches};
+ghost use Rattle.ob_parser.specs.View.{block_trees, pending_stmts_of, mark};
 
+use crate::contexts::optional;
 use crate::declarations::begin_declaration;
-use crate::frames::{pop_frame, push_frame};
-use crate::nodes::{block, break_away, continue_on};
-use crate::state::{Frame, Heading, Owner, Place, SpecUse, State, Step, Use, stepped};
-use crate::uses::optional;
+use crate::nodes::{block, break_stmt, continue_stmt};
+use crate::pending::{pop_pending, push_pending};
+use crate::state::{
+    ExprContext, Heading, PendingStmt, Scope, Shift, SpecContext, State, TokenMark, shifted,
+};
 use ob_base::NoMemory;
 use ob_tree::{BlockItem, Keyword, Sign, TokenKind};
 use std::alloc::Global;
@@ -71,38 +73,42 @@ fn begins_statement(kind: &TokenKind) -> bool
 }
 
 /// Behind the first word of a statement.
-fn word_begun(word: Keyword, place: Place, frames: Vec<Frame>) -> Result<Option<State>, NoMemory>
-    ensures { IfOk result (λ o. Reaches o (word_begun_of (mark place) word (frames_of frames.items))) }
+fn word_begun(
+    word: Keyword,
+    place: TokenMark,
+    pending: Vec<PendingStmt>,
+) -> Result<Option<State>, NoMemory>
+    ensures { IfOk result (λ o. Reaches o (word_begun_of (mark place) word (pending_stmts_of pending.items))) }
 {
     let first = place.at;
     let line = place.line;
     let state = match word {
-        Keyword::If => State::Opening(Use::IfTest {
+        Keyword::If => State::Opening(ExprContext::IfTest {
             first,
             line,
-            frames,
+            pending,
         }),
-        Keyword::While => State::Opening(Use::WhileTest {
+        Keyword::While => State::Opening(ExprContext::WhileTest {
             first,
             line,
-            frames,
+            pending,
         }),
         Keyword::Do => {
-            let mut frames = frames;
-            push_frame(&mut frames, Frame::Do { first, line })?;
-            return Ok(Some(State::Begin(frames)));
+            let mut pending = pending;
+            push_pending(&mut pending, PendingStmt::Do { first, line })?;
+            return Ok(Some(State::Begin(pending)));
         }
         Keyword::For => State::ForWord {
             first,
             line,
-            frames,
+            pending,
         },
-        Keyword::Break => State::Semi(break_away(first, line), frames),
-        Keyword::Continue => State::Semi(continue_on(first, line), frames),
-        Keyword::Return => State::Optional(Use::Return {
+        Keyword::Break => State::Semi(break_stmt(first, line), pending),
+        Keyword::Continue => State::Semi(continue_stmt(first, line), pending),
+        Keyword::Return => State::Optional(ExprContext::Return {
             first,
             line,
-            frames,
+            pending,
         }),
         _ => return Ok(None),
     };
@@ -113,22 +119,22 @@ fn word_begun(word: Keyword, place: Place, frames: Vec<Frame>) -> Result<Option<
 fn begun(
     alloc: Global,
     kind: &TokenKind,
-    place: Place,
-    frames: Vec<Frame>,
+    place: TokenMark,
+    pending: Vec<PendingStmt>,
 ) -> Result<Option<State>, NoMemory>
-    ensures { IfOk result (λ o. Reaches o (begun_of (mark place) kind.now (frames_of frames.items))) }
+    ensures { IfOk result (λ o. Reaches o (begun_of (mark place) kind.now (pending_stmts_of pending.items))) }
 {
     match kind {
-        TokenKind::Word(word) => word_begun(*word, place, frames),
+        TokenKind::Word(word) => word_begun(*word, place, pending),
         TokenKind::Sign(Sign::OpenBrace) => {
-            let block = Frame::Block {
+            let block = PendingStmt::Block {
                 first: place.at,
                 line: place.line,
                 items: Vec::new(alloc),
             };
-            let mut frames = frames;
-            push_frame(&mut frames, block)?;
-            Ok(Some(State::Begin(frames)))
+            let mut pending = pending;
+            push_pending(&mut pending, block)?;
+            Ok(Some(State::Begin(pending)))
         }
         _ => Ok(None),
     }
@@ -139,21 +145,21 @@ fn begun(
 fn statement(
     alloc: Global,
     kind: &TokenKind,
-    place: Place,
-    frames: Vec<Frame>,
-) -> Result<Step, NoMemory>
-    ensures { IfOk result (λ s. Leads (mark place) kind.now s (statement_of (mark place) kind.now (frames_of frames.items))) }
+    place: TokenMark,
+    pending: Vec<PendingStmt>,
+) -> Result<Shift, NoMemory>
+    ensures { IfOk result (λ s. Leads (mark place) kind.now s (statement_of (mark place) kind.now (pending_stmts_of pending.items))) }
 {
     if begins_statement(kind) {
-        return Ok(stepped(begun(alloc, kind, place, frames)?));
+        return Ok(shifted(begun(alloc, kind, place, pending)?));
     }
     optional(
         alloc,
         kind,
-        Use::Statement {
+        ExprContext::Statement {
             first: place.at,
             line: place.line,
-            frames,
+            pending,
         },
     )
 }
@@ -162,19 +168,19 @@ fn statement(
 fn in_block(
     alloc: Global,
     kind: &TokenKind,
-    place: Place,
+    place: TokenMark,
     first: u32,
     line: u32,
     items: Vec<BlockItem>,
-    frames: Vec<Frame>,
-) -> Result<Step, NoMemory>
+    pending: Vec<PendingStmt>,
+) -> Result<Shift, NoMemory>
     ensures { IfOk result (λ s. Leads (mark place) kind.now s
-        (statement_of (mark place) kind.now (InBlock first line (block_trees items.items) ∷ frames_of frames.items))) }
+        (statement_of (mark place) kind.now (InBlock first line (block_trees items.items) ∷ pending_stmts_of pending.items))) }
 {
-    let block = Frame::Block { first, line, items };
-    let mut frames = frames;
-    push_frame(&mut frames, block)?;
-    statement(alloc, kind, place, frames)
+    let block = PendingStmt::Block { first, line, items };
+    let mut pending = pending;
+    push_pending(&mut pending, block)?;
+    statement(alloc, kind, place, pending)
 }
 
 /// Whether the token ends a block.
@@ -202,48 +208,48 @@ fn begins_local(kind: &TokenKind) -> bool
 pub fn block_item(
     alloc: Global,
     kind: &TokenKind,
-    place: Place,
+    place: TokenMark,
     first: u32,
     line: u32,
     items: Vec<BlockItem>,
-    frames: Vec<Frame>,
-) -> Result<Step, NoMemory>
-    ensures { IfOk result (λ s. Leads (mark place) kind.now s (block_item_of (mark place) kind.now first line (block_trees items.items) (frames_of frames.items))) }
+    pending: Vec<PendingStmt>,
+) -> Result<Shift, NoMemory>
+    ensures { IfOk result (λ s. Leads (mark place) kind.now s (block_item_of (mark place) kind.now first line (block_trees items.items) (pending_stmts_of pending.items))) }
 {
     if begins_local(kind) {
-        let owner = Owner::Inner {
+        let scope = Scope::BlockScope {
             first,
             line,
             items,
-            frames,
+            pending,
         };
-        return Ok(begin_declaration(kind, place, owner));
+        return Ok(begin_declaration(kind, place, scope));
     }
     if ends_block(kind) {
-        return Ok(Step::Goes(State::Done(block(first, line, items), frames)));
+        return Ok(Shift::Shifted(State::Done(block(first, line, items), pending)));
     }
-    in_block(alloc, kind, place, first, line, items, frames)
+    in_block(alloc, kind, place, first, line, items, pending)
 }
 
 /// A statement begins with the token or, in a block, a declaration, or the block ends.
 pub fn begin(
     alloc: Global,
     kind: &TokenKind,
-    place: Place,
-    frames: Vec<Frame>,
-) -> Result<Step, NoMemory>
-    ensures { IfOk result (λ s. Leads (mark place) kind.now s (begin_of (mark place) kind.now (frames_of frames.items))) }
+    place: TokenMark,
+    pending: Vec<PendingStmt>,
+) -> Result<Shift, NoMemory>
+    ensures { IfOk result (λ s. Leads (mark place) kind.now s (begin_of (mark place) kind.now (pending_stmts_of pending.items))) }
 {
-    let mut frames = frames;
-    match pop_frame(&mut frames) {
-        Some(Frame::Block { first, line, items }) => block_item(
-            alloc, kind, place, first, line, items, frames,
+    let mut pending = pending;
+    match pop_pending(&mut pending) {
+        Some(PendingStmt::Block { first, line, items }) => block_item(
+            alloc, kind, place, first, line, items, pending,
         ),
         Some(other) => {
-            push_frame(&mut frames, other)?;
-            statement(alloc, kind, place, frames)
+            push_pending(&mut pending, other)?;
+            statement(alloc, kind, place, pending)
         }
-        None => statement(alloc, kind, place, frames),
+        None => statement(alloc, kind, place, pending),
     }
 }
 
@@ -262,31 +268,31 @@ fn begins_type(kind: &TokenKind) -> bool
 pub fn for_start(
     alloc: Global,
     kind: &TokenKind,
-    place: Place,
+    place: TokenMark,
     first: u32,
     line: u32,
-    frames: Vec<Frame>,
-) -> Result<Step, NoMemory>
-    ensures { IfOk result (λ s. Leads (mark place) kind.now s (for_start_of (mark place) kind.now first line (frames_of frames.items))) }
+    pending: Vec<PendingStmt>,
+) -> Result<Shift, NoMemory>
+    ensures { IfOk result (λ s. Leads (mark place) kind.now s (for_start_of (mark place) kind.now first line (pending_stmts_of pending.items))) }
 {
     if !begins_type(kind) {
         return optional(
             alloc,
             kind,
-            Use::ForStart {
+            ExprContext::ForStart {
                 first,
                 line,
-                frames,
+                pending,
             },
         );
     }
-    let owner = Owner::Start {
+    let scope = Scope::ForScope {
         first,
         line,
-        frames,
+        pending,
     };
-    Ok(Step::Specifies(SpecUse::Declaration(Heading {
-        owner,
+    Ok(Shift::NeedsSpec(SpecContext::Declaration(Heading {
+        scope,
         first: place.at,
         line: place.line,
         fixed: false,

@@ -1,23 +1,23 @@
 use Rattle.std.proofs.Common.{◌≡◌, true, false, ◌∙◌}
 use Rattle.ob_tree.specs.ProgramView.{stmt_tree}
 use Rattle.ob_parser.specs.Statements.{closes}
-use Rattle.ob_parser.specs.View.{frames_of}
+use Rattle.ob_parser.specs.View.{pending_stmts_of}
 use Rattle.ob_parser.proofs.Turns.{turn, stops}
 use Rattle.ob_parser.proofs.closing.close.Goals as goal
 
 pub closing-preserved : goal.closing-preserved
 closing-preserved c =
-    let h : true ≡ closes c.args.ifs (frames_of c.closing.frames.items) = cc in
-    let t = turn c.args.ifs (stmt_tree c.closing.stmt) (stmt_tree c.in_ok-whole.whole) (frames_of c.closing.frames.items) (frames_of c.in_ok-whole.rest.items) h c.in_ok-whole.ensures in
+    let h : true ≡ closes c.args.ifs (pending_stmts_of c.closing.pending.items) = cc in
+    let t = turn c.args.ifs (stmt_tree c.closing.stmt) (stmt_tree c.in_ok-whole.whole) (pending_stmts_of c.closing.pending.items) (pending_stmts_of c.in_ok-whole.rest.items) h c.in_ok-whole.ensures in
     t.same ∙ c.closing.invariant
 
 pub closing-smaller : goal.closing-smaller
 closing-smaller c =
-    let h : true ≡ closes c.args.ifs (frames_of c.closing.frames.items) = cc in
-    let t = turn c.args.ifs (stmt_tree c.closing.stmt) (stmt_tree c.in_ok-whole.whole) (frames_of c.closing.frames.items) (frames_of c.in_ok-whole.rest.items) h c.in_ok-whole.ensures in
+    let h : true ≡ closes c.args.ifs (pending_stmts_of c.closing.pending.items) = cc in
+    let t = turn c.args.ifs (stmt_tree c.closing.stmt) (stmt_tree c.in_ok-whole.whole) (pending_stmts_of c.closing.pending.items) (pending_stmts_of c.in_ok-whole.rest.items) h c.in_ok-whole.ensures in
     t.fewer
 
 pub returns : goal.returns
 returns c =
-    let h : false ≡ closes c.args.ifs (frames_of c.closing.frames.items) = cc in
-    stops c.args.ifs (stmt_tree c.closing.stmt) (frames_of c.closing.frames.items) h ∙ c.closing.invariant
+    let h : false ≡ closes c.args.ifs (pending_stmts_of c.closing.pending.items) = cc in
+    stops c.args.ifs (stmt_tree c.closing.stmt) (pending_stmts_of c.closing.pending.items) h ∙ c.closing.invariant

@@ -2,13 +2,13 @@ use Rattle.std.proofs.Common.{◌≡◌, false, sym, subst}
 use Rattle.std.specs.Prelude.{IfOk}
 use Rattle.ob_tree.specs.ProgramView.{stmt_tree}
 use Rattle.ob_parser.specs.Statements.{is_else}
-use Rattle.ob_parser.specs.Steps.{Leads}
-use Rattle.ob_parser.specs.View.{frames_of, mark}
+use Rattle.ob_parser.specs.Shifts.{Leads}
+use Rattle.ob_parser.specs.View.{pending_stmts_of, mark}
 use Rattle.ob_parser.proofs.Turns.{other_comes}
 use Rattle.ob_parser.proofs.finish.done.Goals as goal
 
 pub returns : goal.returns
 returns c =
     let h : is_else c.args.kind.now ≡ false = cc in
-    let e = other_comes (mark c.args.place) c.args.kind.now (stmt_tree c.args.stmt) (stmt_tree c.in_ok-stmt.stmt) (frames_of c.args.frames.items) (frames_of c.in_ok-stmt.frames.items) h c.in_ok-stmt.ensures in
+    let e = other_comes (mark c.args.place) c.args.kind.now (stmt_tree c.args.stmt) (stmt_tree c.in_ok-stmt.stmt) (pending_stmts_of c.args.pending.items) (pending_stmts_of c.in_ok-stmt.pending.items) h c.in_ok-stmt.ensures in
     subst (λ next. IfOk c.after_whole.result (λ s. Leads (mark c.args.place) c.args.kind.now s next)) (sym e) c.after_whole.ensures

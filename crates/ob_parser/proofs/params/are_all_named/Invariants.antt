@@ -1,6 +1,6 @@
 use Rattle.std.proofs.Common.{◌≡◌, drop, map}
 use Rattle.ob_tree.specs.ProgramView.{param_tree}
-use Rattle.ob_tree.proofs.ProgramParts.{are_all_named}
+use Rattle.ob_tree.specs.ProgramParts.{are_all_named}
 use Rattle.ob_parser.proofs.params.are_all_named.Given as goal
 
 abbrev pub invariant-loop-param : goal.invariant-loop-param

@@ -2,19 +2,21 @@ ghost use Rattle.std.specs.Prelude.{◌≡◌, ◌∷◌, length, IfOk, None};
 ghost use Rattle.ob_tree.specs.Trees.{DimTrees, Mark};
 ghost use Rattle.ob_tree.specs.ExpressionView.{dim_trees, expr_tree};
 ghost use Rattle.ob_tree.specs.ProgramView.{option_tree, stmt_tree};
-ghost use Rattle.ob_tree.proofs.Frames.{add_dim as add_dim_of};
-ghost use Rattle.ob_tree.proofs.ProgramStates.{Begin};
-ghost use Rattle.ob_tree.proofs.ProgramMachine.{begin_init as begin_init_of, first_length as first_length_of, last_comma as last_comma_of, optional as optional_of, used as used_of};
-ghost use Rattle.ob_tree.proofs.ProgramParts.{at_bracket as at_bracket_of, at_close as at_close_of, at_semi as at_semi_of};
-ghost use Rattle.ob_tree.proofs.ProgramStates as plain;
+ghost use Rattle.ob_tree.specs.ExprStates.{add_dim as add_dim_of};
+ghost use Rattle.ob_tree.specs.ProgramStates.{Begin};
+ghost use Rattle.ob_tree.specs.ProgramMachine.{begin_init as begin_init_of, first_length as first_length_of, last_comma as last_comma_of, optional as optional_of, used as used_of};
+ghost use Rattle.ob_tree.specs.ProgramParts.{at_bracket as at_bracket_of, at_close as at_close_of, at_semi as at_semi_of};
+ghost use Rattle.ob_tree.specs.ProgramStates as plain;
 ghost use Rattle.ob_parser.specs.Statements.{goes_on};
-ghost use Rattle.ob_parser.specs.Steps.{Leads, Reaches, state_of};
-ghost use Rattle.ob_parser.specs.View.{braces_of, frame_of, frames_of, head_of, mark, target_of, use_of};
+ghost use Rattle.ob_parser.specs.Shifts.{Leads, Reaches, state_of};
+ghost use Rattle.ob_parser.specs.View.{init_lists_of, pending_of, pending_stmts_of, head_of, mark, init_declarator_of, expr_context_of};
 
-use crate::frames::{push_braces, push_frame};
 use crate::initialisers::{has_items, initialised, last_comma};
-use crate::nodes::{do_loop, expression, give_back};
-use crate::state::{Braces, Frame, Head, Place, State, Step, Target, Use, stepped};
+use crate::nodes::{do_stmt, expr_stmt, return_stmt};
+use crate::pending::{push_init_list, push_pending};
+use crate::state::{
+    ExprContext, Head, InitDeclarator, InitList, PendingStmt, Shift, State, TokenMark, shifted,
+};
 use ob_base::NoMemory;
 use ob_tree::{Dim, Expr, ForStart, Init, Sign, TokenKind};
 use std::alloc::Global;
@@ -46,13 +48,17 @@ fn at_bracket(kind: &TokenKind, state: State) -> Option<State>
     }
 }
 
-/// The last part of the frame comes behind the closing parenthesis.
-fn waits(kind: &TokenKind, frames: Vec<Frame>, frame: Frame) -> Result<Option<State>, NoMemory>
-    ensures { IfOk result (λ o. Reaches o (at_close_of kind.now (Begin (frame_of frame ∷ frames_of frames.items)))) }
+/// The last part of the pending statement comes behind the closing parenthesis.
+fn waits(
+    kind: &TokenKind,
+    pending: Vec<PendingStmt>,
+    parent: PendingStmt,
+) -> Result<Option<State>, NoMemory>
+    ensures { IfOk result (λ o. Reaches o (at_close_of kind.now (Begin (pending_of parent ∷ pending_stmts_of pending.items)))) }
 {
-    let mut frames = frames;
-    push_frame(&mut frames, frame)?;
-    Ok(at_close(kind, State::Begin(frames)))
+    let mut pending = pending;
+    push_pending(&mut pending, parent)?;
+    Ok(at_close(kind, State::Begin(pending)))
 }
 
 /// The brackets with one pair more, round this length.
@@ -107,11 +113,11 @@ fn length(
 fn item(
     alloc: Global,
     kind: &TokenKind,
-    target: Target,
-    lists: Vec<Braces>,
+    target: InitDeclarator,
+    lists: Vec<InitList>,
     expr: Option<Expr>,
 ) -> Result<Option<State>, NoMemory>
-    ensures { IfOk result (λ o. Reaches o (used_of kind.now (plain.Item (target_of target) (braces_of lists.items)) (option_tree expr))) }
+    ensures { IfOk result (λ o. Reaches o (used_of kind.now (plain.Item (init_declarator_of target) (init_lists_of lists.items)) (option_tree expr))) }
 {
     match expr {
         Some(expr) => initialised(alloc, kind, target, lists, Init::Value(expr)),
@@ -123,60 +129,60 @@ fn item(
 pub fn used(
     alloc: Global,
     kind: &TokenKind,
-    use_: Use,
+    context: ExprContext,
     expr: Option<Expr>,
 ) -> Result<Option<State>, NoMemory>
-    ensures { IfOk result (λ o. Reaches o (used_of kind.now (use_of use_) (option_tree expr))) }
+    ensures { IfOk result (λ o. Reaches o (used_of kind.now (expr_context_of context) (option_tree expr))) }
 {
-    match use_ {
-        Use::Statement {
+    match context {
+        ExprContext::Statement {
             first,
             line,
-            frames,
-        } => Ok(at_semi(kind, State::Done(expression(first, line, expr), frames))),
-        Use::Return {
+            pending,
+        } => Ok(at_semi(kind, State::Done(expr_stmt(first, line, expr), pending))),
+        ExprContext::Return {
             first,
             line,
-            frames,
-        } => Ok(at_semi(kind, State::Done(give_back(first, line, expr), frames))),
-        Use::ForStart {
+            pending,
+        } => Ok(at_semi(kind, State::Done(return_stmt(first, line, expr), pending))),
+        ExprContext::ForStart {
             first,
             line,
-            frames,
+            pending,
         } => Ok(at_semi(
             kind,
-            State::Optional(Use::ForTest {
+            State::Optional(ExprContext::ForTest {
                 first,
                 line,
                 start: ForStart::Expr(expr),
-                frames,
+                pending,
             }),
         )),
-        Use::ForTest {
+        ExprContext::ForTest {
             first,
             line,
             start,
-            frames,
+            pending,
         } => Ok(at_semi(
             kind,
-            State::Optional(Use::ForNext {
+            State::Optional(ExprContext::ForNext {
                 first,
                 line,
                 start,
                 test: expr,
-                frames,
+                pending,
             }),
         )),
-        Use::ForNext {
+        ExprContext::ForNext {
             first,
             line,
             start,
             test,
-            frames,
+            pending,
         } => waits(
             kind,
-            frames,
-            Frame::For {
+            pending,
+            PendingStmt::For {
                 first,
                 line,
                 start,
@@ -184,36 +190,36 @@ pub fn used(
                 next: expr,
             },
         ),
-        Use::IfTest {
+        ExprContext::IfTest {
             first,
             line,
-            frames,
+            pending,
         } => match expr {
             None => Ok(None),
-            Some(test) => waits(kind, frames, Frame::If { first, line, test }),
+            Some(test) => waits(kind, pending, PendingStmt::If { first, line, test }),
         },
-        Use::WhileTest {
+        ExprContext::WhileTest {
             first,
             line,
-            frames,
+            pending,
         } => match expr {
             None => Ok(None),
-            Some(test) => waits(kind, frames, Frame::While { first, line, test }),
+            Some(test) => waits(kind, pending, PendingStmt::While { first, line, test }),
         },
-        Use::DoTest {
+        ExprContext::DoTest {
             first,
             line,
             body,
-            frames,
+            pending,
         } => match expr {
             None => Ok(None),
             Some(test) => {
-                let stmt = do_loop(alloc, first, line, body, test)?;
-                Ok(at_close(kind, State::Semi(stmt, frames)))
+                let stmt = do_stmt(alloc, first, line, body, test)?;
+                Ok(at_close(kind, State::Semi(stmt, pending)))
             }
         },
-        Use::Length { head, dims } => length(kind, head, dims, expr),
-        Use::Item { target, lists } => item(alloc, kind, target, lists, expr),
+        ExprContext::Length { head, dims } => length(kind, head, dims, expr),
+        ExprContext::Item { target, lists } => item(alloc, kind, target, lists, expr),
     }
 }
 
@@ -250,8 +256,8 @@ fn may_lack_length(kind: &TokenKind, head: &Head, dims: &Vec<Dim>) -> bool
 }
 
 /// Whether the list may end before the token, behind a comma.
-fn may_lack_item(kind: &TokenKind, target: &Target, lists: &Vec<Braces>) -> bool
-    ensures { result ≡ goes_on (last_comma_of kind.now (target_of target.now) (braces_of lists.now.items)) }
+fn may_lack_item(kind: &TokenKind, target: &InitDeclarator, lists: &Vec<InitList>) -> bool
+    ensures { result ≡ goes_on (last_comma_of kind.now (init_declarator_of target.now) (init_lists_of lists.now.items)) }
 {
     match lists.last() {
         None => false,
@@ -263,28 +269,31 @@ fn may_lack_item(kind: &TokenKind, target: &Target, lists: &Vec<Braces>) -> bool
 }
 
 /// Whether the token may stand where the expression is left out.
-fn may_lack(kind: &TokenKind, use_: &Use) -> bool
-    ensures { result ≡ goes_on (used_of kind.now (use_of use_.now) None) }
+fn may_lack(kind: &TokenKind, context: &ExprContext) -> bool
+    ensures { result ≡ goes_on (used_of kind.now (expr_context_of context.now) None) }
 {
-    match use_ {
-        Use::Statement { .. } | Use::Return { .. } | Use::ForStart { .. } | Use::ForTest { .. } =>
-            is_semi(kind),
-        Use::ForNext { .. } => is_close(kind),
-        Use::Length { head, dims } => may_lack_length(kind, head, dims),
-        Use::Item { target, lists } => may_lack_item(kind, target, lists),
-        Use::IfTest { .. } | Use::WhileTest { .. } | Use::DoTest { .. } => false,
+    match context {
+        ExprContext::Statement { .. }
+        | ExprContext::Return { .. }
+        | ExprContext::ForStart { .. }
+        | ExprContext::ForTest { .. } => is_semi(kind),
+        ExprContext::ForNext { .. } => is_close(kind),
+        ExprContext::Length { head, dims } => may_lack_length(kind, head, dims),
+        ExprContext::Item { target, lists } => may_lack_item(kind, target, lists),
+        ExprContext::IfTest { .. } | ExprContext::WhileTest { .. } | ExprContext::DoTest { .. } =>
+            false,
     }
 }
 
 /// An expression begins with the token, or none stands here.
 #[tactic(auto, using(crate::proofs::LeftOut::left_out, crate::proofs::LeftOut::stands))]
-pub fn optional(alloc: Global, kind: &TokenKind, use_: Use) -> Result<Step, NoMemory>
-    ensures { IfOk result (λ s. (m : Mark) → Leads m kind.now s (optional_of m kind.now (use_of use_))) }
+pub fn optional(alloc: Global, kind: &TokenKind, context: ExprContext) -> Result<Shift, NoMemory>
+    ensures { IfOk result (λ s. (m : Mark) → Leads m kind.now s (optional_of m kind.now (expr_context_of context))) }
 {
-    if may_lack(kind, &use_) {
-        Ok(stepped(used(alloc, kind, use_, None)?))
+    if may_lack(kind, &context) {
+        Ok(shifted(used(alloc, kind, context, None)?))
     } else {
-        Ok(Step::Reads(use_))
+        Ok(Shift::NeedsExpr(context))
     }
 }
 
@@ -292,22 +301,22 @@ pub fn optional(alloc: Global, kind: &TokenKind, use_: Use) -> Result<Step, NoMe
 pub fn begin_init(
     alloc: Global,
     kind: &TokenKind,
-    place: Place,
-    target: Target,
-    lists: Vec<Braces>,
-) -> Result<Step, NoMemory>
-    ensures { IfOk result (λ s. Leads (mark place) kind.now s (begin_init_of (mark place) kind.now (target_of target) (braces_of lists.items))) }
+    place: TokenMark,
+    target: InitDeclarator,
+    lists: Vec<InitList>,
+) -> Result<Shift, NoMemory>
+    ensures { IfOk result (λ s. Leads (mark place) kind.now s (begin_init_of (mark place) kind.now (init_declarator_of target) (init_lists_of lists.items))) }
 {
     match kind {
         TokenKind::Sign(Sign::OpenBrace) => {
-            let braces = Braces {
+            let braces = InitList {
                 first: place.at,
                 items: Vec::new(alloc),
             };
             let mut lists = lists;
-            push_braces(&mut lists, braces)?;
-            Ok(Step::Goes(State::Init(target, lists)))
+            push_init_list(&mut lists, braces)?;
+            Ok(Shift::Shifted(State::Init(target, lists)))
         }
-        _ => optional(alloc, kind, Use::Item { target, lists }),
+        _ => optional(alloc, kind, ExprContext::Item { target, lists }),
     }
 }

@@ -8,31 +8,31 @@ use Rattle.ob_tree.specs.declared.tokens.TokenKind.TheVariants as kind
 use Rattle.ob_tree.specs.Trees.{ExprTree, SpecTree}
 use Rattle.ob_tree.specs.Places.{here}
 use Rattle.ob_tree.specs.Fronts.{lines}
-use Rattle.ob_tree.specs.Answers.{Verdict, Whole, NoTree, TooDeep}
-use Rattle.ob_tree.proofs.Machine.{is_spec_word}
-use Rattle.ob_tree.proofs.ProgramStates as plain
-use Rattle.ob_tree.proofs.ProgramStates.{SpecUse, Use}
-use Rattle.ob_tree.proofs.ProgramMachine.{step, finish, use_level, used, specified}
-use Rattle.ob_tree.proofs.Readings as machine
+use Rattle.ob_tree.specs.Verdicts.{Verdict, Whole, NoTree, TooDeep}
+use Rattle.ob_tree.specs.ExprMachine.{is_spec_word}
+use Rattle.ob_tree.specs.ProgramStates as plain
+use Rattle.ob_tree.specs.ProgramStates.{SpecContext, ExprContext}
+use Rattle.ob_tree.specs.ProgramMachine.{shift, finish, context_level, used, specified}
+use Rattle.ob_tree.specs.Readings as machine
 use Rattle.ob_exprs.specs.Parsed.{IsExprVerdict, IsSpecVerdict}
 use Rattle.ob_parser.specs.declared.state.State.{State}
 use Rattle.ob_parser.specs.Answer.{Answer, IsAnswer, IsProgramVerdict}
-use Rattle.ob_parser.specs.Loads.{spec_depth, use_depth, load, newest}
-use Rattle.ob_parser.specs.Steps.{state_of}
+use Rattle.ob_parser.specs.DeepestPaths.{spec_depth, context_depth, deepest_path, newest_path}
+use Rattle.ob_parser.specs.Shifts.{state_of}
 
 -- what the machine reads that holds this at place i
 abbrev pub reading : List Token → (i : ℕ) → plain.State → machine.Reading plain.State
-reading ts i s = machine.read (λ q k t. step (here (lines ts) q) k t) load 0 i (map (λ t. t.kind) (drop i ts)) s
+reading ts i s = machine.read (λ q k t. shift (here (lines ts) q) k t) deepest_path 0 i (map (λ t. t.kind) (drop i ts)) s
 
 -- Reading on from place i gives the right verdict, and what was read keeps the limit.
 pub record Kept (ts : List Token) (i : ℕ) (s : plain.State) : Type 0 where
   pub right : IsProgramVerdict ts (machine.verdict finish (reading ts i s))
-  pub limit : load s ≤ 256
+  pub limit : deepest_path s ≤ 256
 
 -- The token at i leads to this: reading goes on, unless it is too deep.
 pub record Reached (ts : List Token) (i : ℕ) (s : plain.State) : Type 0 where
-  pub goes_on : newest s ≤ 256 → Kept ts (i + 1) s
-  pub too_deep : 256 < newest s → IsAnswer ts (Answer.TooDeep i)
+  pub goes_on : newest_path s ≤ 256 → Kept ts (i + 1) s
+  pub too_deep : 256 < newest_path s → IsAnswer ts (Answer.TooDeep i)
 
 -- The token at i leads to a state, or can't stand there.
 abbrev pub Behind : List Token → (i : ℕ) → Option plain.State → Type 0
@@ -52,8 +52,8 @@ After ts from next (NoTree i) = IsAnswer ts (Answer.NoTree i)
 After ts from next (TooDeep i) = IsAnswer ts (Answer.TooDeep i)
 
 -- An expression for this begins at place i, if any does.
-abbrev pub AwaitsExpr : List Token → (i : ℕ) → Use → Type 0
-AwaitsExpr ts i u = (v : Verdict ExprTree) → IsExprVerdict ts i (min (use_depth u) 256) (use_level u) v → After ts i (λ j e k. used k u (Some e)) v
+abbrev pub AwaitsExpr : List Token → (i : ℕ) → ExprContext → Type 0
+AwaitsExpr ts i u = (v : Verdict ExprTree) → IsExprVerdict ts i (min (context_depth u) 256) (context_level u) v → After ts i (λ j e k. used k u (Some e)) v
 
 -- whether a specifier begins with a token of this kind
 abbrev pub begins_spec : TokenKind → Bool
@@ -61,7 +61,7 @@ begins_spec (kind.Word word) = is_spec_word word
 begins_spec k = false
 
 -- A specifier for this begins at place i, if any does. Where no node may stand below, one that begins is too deep.
-pub record AwaitsSpec (ts : List Token) (i : ℕ) (u : SpecUse) : Type 0 where
+pub record AwaitsSpec (ts : List Token) (i : ℕ) (u : SpecContext) : Type 0 where
   pub shallow : spec_depth u ≤ 256 → (v : Verdict SpecTree) → IsSpecVerdict ts i (spec_depth u) v → After ts i (λ j s k. specified (here (lines ts) j) k u (Some s)) v
   pub deep : 256 < spec_depth u → (t : Token) → slice_get ts i ≡ Some t → IsAnswer ts (cond (begins_spec t.kind) (Answer.TooDeep i) (Answer.NoTree i))
 
