@@ -257,11 +257,11 @@ const LEVELS: [(&str, &str, &str, &str); 8] = [
 
 #[test]
 fn stops_at_the_level(rt: HostRuntime) -> Result<(), Fail> {
-    for (source, comma, assign, cond) in LEVELS {
+    for (source, comma, assign, cond) in &LEVELS {
         for (level, answer) in [
-            (Level::Comma, comma),
-            (Level::Assign, assign),
-            (Level::Cond, cond),
+            (Level::Comma, *comma),
+            (Level::Assign, *assign),
+            (Level::Cond, *cond),
         ] {
             let text = expr_answer(rt.alloc(), source, FIRST, level, Part::Tree)?;
             assert_eq!(rt; text.as_str(), answer, "at {source}, {level:?}");
@@ -303,10 +303,13 @@ const MARKS: [(usize, &str, &str); 7] = [
 
 #[test]
 fn marks_each_node(rt: HostRuntime) -> Result<(), Fail> {
-    for (from, source, answer) in MARKS {
-        let start = Start { from, depth: 0 };
+    for (from, source, answer) in &MARKS {
+        let start = Start {
+            from: *from,
+            depth: 0,
+        };
         let text = expr_answer(rt.alloc(), source, start, Level::Comma, Part::Marks)?;
-        assert_eq!(rt; text.as_str(), answer, "at {source}");
+        assert_eq!(rt; text.as_str(), *answer, "at {source}");
     }
     Ok(())
 }
@@ -360,9 +363,9 @@ const SPECIFIERS: [(&str, &str); 41] = [
 
 #[test]
 fn reads_specifiers(rt: HostRuntime) -> Result<(), Fail> {
-    for (source, answer) in SPECIFIERS {
+    for (source, answer) in &SPECIFIERS {
         let text = spec_answer(rt.alloc(), source, FIRST, Part::Tree)?;
-        assert_eq!(rt; text.as_str(), answer, "at {source}");
+        assert_eq!(rt; text.as_str(), *answer, "at {source}");
     }
     let start = Start { from: 1, depth: 0 };
     let text = spec_answer(rt.alloc(), "x struct {int y;}", start, Part::Marks)?;

@@ -1,13 +1,12 @@
 //! The answers to texts near the greatest length of a path, which is 256 nodes.
 
 use super::answers::{FIRST, Part, Start, expr_answer, spec_answer};
-use super::program_answers::program_answer;
 use ob_exprs::Level;
 use std::alloc::{AllocError, Global};
 use std::test::Fail;
 
 /// The first piece, the second so many times, the third, the fourth so many times, the last.
-fn nested(alloc: Global, pieces: [&str; 5], count: u32) -> Result<String, AllocError> {
+fn nested(alloc: Global, pieces: &[&str; 5], count: u32) -> Result<String, AllocError> {
     let [first, left, middle, right, last] = pieces;
     let mut text = String::from_str(alloc, first)?;
     for _ in 0..count {
@@ -80,8 +79,8 @@ const NESTED: [([&str; 5], u32, &str); 41] = [
 
 #[test]
 fn counts_nodes_on_paths(rt: HostRuntime) -> Result<(), Fail> {
-    for (pieces, count, answer) in NESTED {
-        let source = nested(rt.alloc(), pieces, count)?;
+    for (pieces, count, answer) in &NESTED {
+        let source = nested(rt.alloc(), pieces, *count)?;
         let text = expr_answer(
             rt.alloc(),
             source.as_str(),
@@ -89,7 +88,7 @@ fn counts_nodes_on_paths(rt: HostRuntime) -> Result<(), Fail> {
             Level::Comma,
             Part::Place,
         )?;
-        assert_eq!(rt; text.as_str(), answer, "at {count} times {pieces:?}");
+        assert_eq!(rt; text.as_str(), *answer, "at {count} times {pieces:?}");
     }
     Ok(())
 }
@@ -144,10 +143,13 @@ const SPECIFIERS: [(u32, &str, &str); 12] = [
 
 #[test]
 fn counts_nodes_above(rt: HostRuntime) -> Result<(), Fail> {
-    for (depth, source, answer) in UNDER {
-        let start = Start { from: 0, depth };
+    for (depth, source, answer) in &UNDER {
+        let start = Start {
+            from: 0,
+            depth: *depth,
+        };
         let text = expr_answer(rt.alloc(), source, start, Level::Comma, Part::Place)?;
-        assert_eq!(rt; text.as_str(), answer, "at {source} under {depth}");
+        assert_eq!(rt; text.as_str(), *answer, "at {source} under {depth}");
     }
     for (level, source, answer) in [(Level::Assign, "x, y", "1"), (Level::Cond, "x = y", "1")] {
         let start = Start {
@@ -157,120 +159,13 @@ fn counts_nodes_above(rt: HostRuntime) -> Result<(), Fail> {
         let text = expr_answer(rt.alloc(), source, start, level, Part::Place)?;
         assert_eq!(rt; text.as_str(), answer, "at {source}");
     }
-    for (depth, source, answer) in SPECIFIERS {
-        let start = Start { from: 0, depth };
+    for (depth, source, answer) in &SPECIFIERS {
+        let start = Start {
+            from: 0,
+            depth: *depth,
+        };
         let text = spec_answer(rt.alloc(), source, start, Part::Place)?;
-        assert_eq!(rt; text.as_str(), answer, "at {source} under {depth}");
-    }
-    Ok(())
-}
-
-/// Nested programs.
-const PROGRAMS: [([&str; 5], u32, &str); 44] = [
-    (["int main(void){", "{", "", "}", "}"], 253, "whole"),
-    (["int main(void){", "{", "", "}", "}"], 254, "whole"),
-    (["int main(void){", "{", "", "}", "}"], 255, "TooDeep 260"),
-    (["int main(void){", "if(1)", ";", "", "}"], 252, "whole"),
-    (["int main(void){", "if(1)", ";", "", "}"], 253, "whole"),
-    (
-        ["int main(void){", "if(1)", ";", "", "}"],
-        254,
-        "TooDeep 1020",
-    ),
-    (
-        ["int main(void){", "if(1);else ", ";", "", "}"],
-        252,
-        "whole",
-    ),
-    (
-        ["int main(void){", "if(1);else ", ";", "", "}"],
-        253,
-        "whole",
-    ),
-    (
-        ["int main(void){", "if(1);else ", ";", "", "}"],
-        254,
-        "TooDeep 1526",
-    ),
-    (["int main(void){", "while(1)", ";", "", "}"], 252, "whole"),
-    (["int main(void){", "while(1)", ";", "", "}"], 253, "whole"),
-    (
-        ["int main(void){", "while(1)", ";", "", "}"],
-        254,
-        "TooDeep 1020",
-    ),
-    (["int main(void){", "for(;;)", ";", "", "}"], 252, "whole"),
-    (["int main(void){", "for(;;)", ";", "", "}"], 253, "whole"),
-    (
-        ["int main(void){", "for(;;)", ";", "", "}"],
-        254,
-        "TooDeep 1276",
-    ),
-    (
-        ["int main(void){", "do ", ";", "while(1);", "}"],
-        252,
-        "whole",
-    ),
-    (
-        ["int main(void){", "do ", ";", "while(1);", "}"],
-        253,
-        "whole",
-    ),
-    (
-        ["int main(void){", "do ", ";", "while(1);", "}"],
-        254,
-        "TooDeep 260",
-    ),
-    (["int main(void){int x=", "{", "1", "}", ";}"], 251, "whole"),
-    (["int main(void){int x=", "{", "1", "}", ";}"], 252, "whole"),
-    (
-        ["int main(void){int x=", "{", "1", "}", ";}"],
-        253,
-        "TooDeep 262",
-    ),
-    (
-        ["int main(void){return ", "(", "x", ")", ";}"],
-        251,
-        "whole",
-    ),
-    (
-        ["int main(void){return ", "(", "x", ")", ";}"],
-        252,
-        "whole",
-    ),
-    (
-        ["int main(void){return ", "(", "x", ")", ";}"],
-        253,
-        "TooDeep 260",
-    ),
-    (["int x=", "{", "1", "}", ";"], 253, "whole"),
-    (["int x=", "{", "1", "}", ";"], 254, "whole"),
-    (["int x=", "{", "1", "}", ";"], 255, "TooDeep 258"),
-    (["int ", "*", "x;", "", ""], 254, "whole"),
-    (["int ", "*", "x;", "", ""], 255, "whole"),
-    (["int ", "*", "x;", "", ""], 256, "TooDeep 256"),
-    (["int x", "[1]", ";", "", ""], 253, "whole"),
-    (["int x", "[1]", ";", "", ""], 254, "whole"),
-    (["int x", "[1]", ";", "", ""], 255, "TooDeep 765"),
-    (["int f(int ", "*", "x);", "", ""], 254, "whole"),
-    (["int f(int ", "*", "x);", "", ""], 255, "whole"),
-    (["int f(int ", "*", "x);", "", ""], 256, "TooDeep 259"),
-    (["int ", "*", "f(void);", "", ""], 254, "whole"),
-    (["int ", "*", "f(void);", "", ""], 255, "whole"),
-    (["int ", "*", "f(void);", "", ""], 256, "TooDeep 256"),
-    (["", "struct{", "int x;", "}y;", ""], 254, "whole"),
-    (["", "struct{", "int x;", "}y;", ""], 255, "whole"),
-    (["", "struct{", "int x;", "}y;", ""], 256, "TooDeep 510"),
-    (["", "int x;", "int y;", "", ""], 1000, "whole"),
-    (["int main(void){", "x;", "", "", "}"], 1000, "whole"),
-];
-
-#[test]
-fn counts_nodes_of_programs(rt: HostRuntime) -> Result<(), Fail> {
-    for (pieces, count, answer) in PROGRAMS {
-        let source = nested(rt.alloc(), pieces, count)?;
-        let text = program_answer(rt.alloc(), source.as_bytes())?;
-        assert_eq!(rt; text.as_str(), answer, "at {count} times {pieces:?}");
+        assert_eq!(rt; text.as_str(), *answer, "at {source} under {depth}");
     }
     Ok(())
 }

@@ -6,8 +6,3 @@ mod depth;
 mod expressions;
 mod grammar;
 mod lists;
-mod prefixes;
-mod program_answers;
-mod programs;
-mod show;
-mod show_programs;

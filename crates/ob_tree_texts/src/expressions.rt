@@ -1,6 +1,3 @@
-//! Trees as texts: each expression but a name, a constant and a call in braces, each type name in
-//! angle brackets.
-
 use ob_base::Text;
 use ob_tree::{Dim, Expr, ExprNode, Keyword, MemberDecl, ObjDecl, Sign, Spec, SpecNode, TypeName};
 use std::alloc::{AllocError, Global};

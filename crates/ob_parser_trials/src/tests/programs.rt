@@ -1,6 +1,6 @@
 //! The answers to short programs.
 
-use super::program_answers::{program_answer, program_tree};
+use super::answers::{program_answer, program_tree};
 use std::test::Fail;
 
 /// Declarations. The answer `whole` is a program that spells the tokens.
@@ -175,10 +175,10 @@ fn reads_programs(rt: HostRuntime) -> Result<(), Fail> {
             assert_eq!(rt; text.as_str(), *answer, "at {source}");
         }
     }
-    for (body, answer) in BODIES {
+    for (body, answer) in &BODIES {
         let source = format!(in rt.alloc(); "int main(void){{{body}}}")?;
         let text = program_answer(rt.alloc(), source.as_bytes())?;
-        assert_eq!(rt; text.as_str(), answer, "at {body}");
+        assert_eq!(rt; text.as_str(), *answer, "at {body}");
     }
     Ok(())
 }
@@ -222,15 +222,15 @@ const ITEMS: [(&str, &str); 2] = [
 
 #[test]
 fn makes_the_tree(rt: HostRuntime) -> Result<(), Fail> {
-    for (body, tree) in TREES {
+    for (body, tree) in &TREES {
         let source = format!(in rt.alloc(); "int main(void){{{body}}}")?;
         let answer = format!(in rt.alloc(); "Int main(void) {{{tree}}}")?;
         let text = program_tree(rt.alloc(), source.as_str(), false)?;
         assert_eq!(rt; text.as_str(), answer.as_str(), "at {body}");
     }
-    for (source, answer) in ITEMS {
+    for (source, answer) in &ITEMS {
         let text = program_tree(rt.alloc(), source, true)?;
-        assert_eq!(rt; text.as_str(), answer, "at {source}");
+        assert_eq!(rt; text.as_str(), *answer, "at {source}");
     }
     Ok(())
 }

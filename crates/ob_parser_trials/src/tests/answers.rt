@@ -1,13 +1,22 @@
 //! The answers of the parser of programs as texts.
 
-use super::answers::{LIMIT, show_fault};
-use super::show::Shown;
-use super::show_programs::show_program;
 use ob_lexer::lex;
 use ob_parser::parse;
-use ob_tree::{Token, TokenKind, spell};
+use ob_tree::{SyntaxFault, Token, TokenKind, spell};
+use ob_tree_texts::{Shown, show_program};
 use std::alloc::{AllocError, Global};
 use std::fmt::Write;
+
+/// The greatest length of a source, in bytes.
+pub const LIMIT: usize = 1_048_576;
+
+fn show_fault(shown: &mut Shown, fault: SyntaxFault) -> Result<(), AllocError> {
+    match fault {
+        SyntaxFault::NoTree(at) => write!(shown.text, "NoTree {at}"),
+        SyntaxFault::TooDeep(at) => write!(shown.text, "TooDeep {at}"),
+        SyntaxFault::NoMemory => shown.text.push_str("NoMemory"),
+    }
+}
 
 /// Adds a token's kind with a space behind it.
 fn show_kind(text: &mut String, kind: &TokenKind) -> Result<(), AllocError> {

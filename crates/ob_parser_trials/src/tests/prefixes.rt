@@ -1,7 +1,6 @@
 //! The begins of a program, and a long one.
 
-use super::answers::LIMIT;
-use super::program_answers::{kinds_of, program_answer};
+use super::answers::{LIMIT, kinds_of, program_answer};
 use ob_lexer::lex;
 use std::alloc::{AllocError, Global};
 use std::test::Fail;

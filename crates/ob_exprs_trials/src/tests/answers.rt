@@ -1,9 +1,9 @@
 //! The answers of the parsers as texts: a tree with the place behind it, or a fault with its place.
 
-use super::show::{Shown, show_expr, show_spec};
 use ob_exprs::{Level, parse_expr, parse_spec};
 use ob_lexer::lex;
 use ob_tree::SyntaxFault;
+use ob_tree_texts::{Shown, show_expr, show_spec};
 use std::alloc::{AllocError, Global};
 use std::fmt::Write;
 

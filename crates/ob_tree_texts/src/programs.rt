@@ -1,6 +1,4 @@
-//! Programs as texts: each statement that stands in another is in square brackets.
-
-use super::show::{Shown, show_dims, show_expr, show_name, show_spec};
+use crate::expressions::{Shown, show_dims, show_expr, show_name, show_spec};
 use ob_base::Text;
 use ob_tree::{
     BlockItem, Expr, FileDecl, ForStart, Init, Item, ItemNode, Local, ObjDecl, Param, Params,

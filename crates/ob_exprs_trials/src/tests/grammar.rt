@@ -123,8 +123,8 @@ const TOKENS: [(u8, &str); 31] = [
 pub fn source_of(alloc: Global, letters: &[u8]) -> Result<String, AllocError> {
     let mut source = String::new(alloc);
     for letter in letters {
-        for (token, spelling) in TOKENS {
-            if token == *letter {
+        for (token, spelling) in &TOKENS {
+            if *token == *letter {
                 source.push_str(spelling)?;
                 source.push_str(" ")?;
             }
@@ -168,8 +168,8 @@ fn put<'a>(set: &mut Vec<Item<'a>>, item: Item<'a>) -> Result<(), AllocError> {
 
 /// The rules of a nonterminal, which can begin at this place.
 fn begin(set: &mut Vec<Item<'static>>, left: u8, from: usize) -> Result<(), AllocError> {
-    for (nonterminal, right) in RULES {
-        if nonterminal == left {
+    for (nonterminal, right) in &RULES {
+        if *nonterminal == left {
             let rest = right.as_bytes();
             put(set, Item { left, rest, from })?;
         }
