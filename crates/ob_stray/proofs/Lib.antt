@@ -1,0 +1,4 @@
+mod Keys
+mod Listings
+mod Owned
+mod Turning
