@@ -3,25 +3,20 @@ use Rattle.ob_base.specs.Devices.{Reading, Writing}
 use Rattle.ob_machine.specs.Machines.{Runs, loaded}
 use Rattle.ob_program.specs.Settings.{usual}
 use Rattle.ob_program.proofs.exec.run_bytes.Goals as goal
-use Rattle.ob_program.proofs.exec.run_bytes.Given.{Over}
-
-abbrev reading : (g : Over) → goal.After-drop-machine-inside-11 g → Reading
-reading g c =
-    record { left_before = g.S.Source.left c.args.input.now; left_now = g.S.Source.left c.run-ending.new.input; faults_before = g.S.Source.faults c.args.input.now; faults_now = g.S.Source.faults c.run-ending.new.input }
-
-abbrev writing : (g : Over) → goal.After-drop-machine-inside-11 g → Writing
-writing g c =
-    record { taken_before = g.K.Sink.taken c.args.out.now; taken_now = g.K.Sink.taken c.run-ending.new.out; tally_before = g.K.Sink.tally c.args.out.now; tally_now = g.K.Sink.tally c.run-ending.new.out; faults_before = g.K.Sink.faults c.args.out.now; faults_now = g.K.Sink.faults c.run-ending.new.out }
 
 pub returns : goal.returns
 returns g c =
+    let reading : Reading =
+    record { left_before = g.S.Source.left c.args.input.now; left_now = g.S.Source.left c.run-ending.new.input; faults_before = g.S.Source.faults c.args.input.now; faults_now = g.S.Source.faults c.run-ending.new.input } in
+    let writing : Writing =
+    record { taken_before = g.K.Sink.taken c.args.out.now; taken_now = g.K.Sink.taken c.run-ending.new.out; tally_before = g.K.Sink.tally c.args.out.now; tally_now = g.K.Sink.tally c.run-ending.new.out; faults_before = g.K.Sink.faults c.args.out.now; faults_now = g.K.Sink.faults c.run-ending.new.out } in
     record {
       image = c.in-Ok.image;
       spelled = c.in-Ok.ensures;
       verified = c.in-Ok-verify.ensures.1;
       after = c.run-ending.new.self;
       runs =
-          subst (λ m. Runs m c.run-ending.new.self c.args.steps c.run-ending.result (reading g c) (writing g c))
+          subst (λ m. Runs m c.run-ending.new.self c.args.steps c.run-ending.result reading writing)
           (c.in-Ok-load.ensures ∙ ap (λ i. loaded i usual) c.in-Ok-verify.ensures.0)
           c.run-ending.ensures.run;
       instructions_are = c.instructions.ensures;
