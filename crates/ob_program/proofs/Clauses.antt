@@ -214,3 +214,13 @@ source_line f bytes name before now NoMemory n o e fits g nf p = p
 source_line f bytes name before now (Refused r) n o e fits g nf p = absurd (not_both bytes f r fits.1 g.1.0)
 source_line f bytes name before now WriteFault n o e fits g nf p = p
 source_line f bytes name before now (Ended number) n o e fits g nf p = p
+
+-- a status below 128 has no line
+pub small_line : (name : List ℕ) (a : Answer) → status_of a < 128 → line_of name a ≡ []
+small_line name (Ended number) small = refl
+small_line name Usage small = absurd (omega arith)
+small_line name FileFault small = absurd (omega arith)
+small_line name FileLong small = absurd (omega arith)
+small_line name (Refused refusal) small = absurd (not_small refusal small)
+small_line name WriteFault small = absurd (omega arith)
+small_line name NoMemory small = absurd (omega arith)

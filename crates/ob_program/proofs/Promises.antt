@@ -1,6 +1,7 @@
 -- Each clause of the program, from what the words came to and how that was told.
 use Rattle.std.proofs.Common.{◌≡◌, ◌≢◌, ℕ, ◌<◌, ◌≤◌, List, length, Option, None, inl, inr, ◌⊎◌, sym, ap, ◌∙◌, subst, arith}
 use Rattle.std.specs.Io.KnownBytes.{append_known}
+use Rattle.ob_base.proofs.Appending.{append_known-nil}
 use Rattle.ob_base.specs.Faults.{NoFault, Rose}
 use Rattle.ob_base.specs.Folder.{Files}
 use Rattle.ob_tree.specs.declared.faults.LexKind.{LexKind}
@@ -16,7 +17,7 @@ use Rattle.ob_program.specs.Job.{job_of}
 use Rattle.ob_program.specs.Run.{GivesWay, HasPlace, IsDiagnosed, IsLong, IsRefused, IsSource, NamesNone, TakesPrefixOfLine, TellsFiles, TellsPlace, file_name, most_source_bytes}
 use Rattle.ob_program.specs.Sources.{Outcome, refusal_status}
 use Rattle.ob_program.proofs.Came.{FileCame, JobCame, Ways, job_came, named_came}
-use Rattle.ob_program.proofs.Clauses.{Fits, IsWhole, LinePrefix, Written, is_file_fault, is_file_long, is_refused, is_usage, long_line, no_way, out_prefix, refused_line, refused_or, runs, source_line, told_prefix, whole_of, whole_or}
+use Rattle.ob_program.proofs.Clauses.{Fits, IsWhole, LinePrefix, Written, is_file_fault, is_file_long, is_refused, is_usage, long_line, no_way, out_prefix, refused_line, refused_or, runs, small_line, source_line, told_prefix, whole_of, whole_or}
 use Rattle.ob_program.proofs.Files.{Named, named}
 use Rattle.ob_program.proofs.Reasons.{IsKnown, IsNoRun, RanSo, Told, deep_of, failed_prefix, fault_of, given, lex_of, loaded_of, long_of, missing_of, missing_prefix, no_other_of, no_plain_place, no_run, not_plain, not_yet_of, nothing_of, ran_of, syntax_of, told_of, untouched_of, usage_of, usage_prefix}
 
@@ -125,6 +126,15 @@ module _ {words : List (List ℕ)} {files : Option Files} {before now status n :
 
   pub told_promise : Came words files before now status n o e → Told status o e
   told_promise c = told_of words files before now status (file_name words) n o e c.answer (ways c) c.told
+
+  pub untold_promise : Came words files before now status n o e → status < 128 → e.taken_now ≡ e.taken_before
+  untold_promise c small =
+      let w = whole_of (file_name words) c.answer status e c.told (λ g. small_status g) in
+      w.1 ∙ ap (append_known e.taken_before) (small_line (file_name words) c.answer (subst (λ k. k < 128) w.0 small)) ∙ append_known-nil e.taken_before
+    where
+      small_status : GivesWay status → ⊥
+      small_status (inl is) = omega (arith, is, small)
+      small_status (inr is) = omega (arith, is, small)
 
   pub told_place_promise : Came words files before now status n o e → HasPlace status → TellsPlace words status e.taken_before e.taken_now o.taken_before o.taken_now
   told_place_promise c place =

@@ -68,6 +68,9 @@ returns-clause-told g c = λ none. promise.told_promise (came g c)
 pub returns-clause-told_place : goal.returns-clause-told_place
 returns-clause-told_place g c = λ none. promise.told_place_promise (came g c)
 
+pub returns-clause-untold : goal.returns-clause-untold
+returns-clause-untold g c = λ none. promise.untold_promise (came g c)
+
 pub returns-clause-out_prefix : goal.returns-clause-out_prefix
 returns-clause-out_prefix g c = λ none. promise.out_prefix_promise (came g c)
 
