@@ -16,6 +16,4 @@ mod frames;
 pub mod laws;
 mod rows;
 mod space;
-#[cfg(test)]
-mod tests;
 mod unbuilt;

@@ -1,9 +1,0 @@
-use Rattle.std.proofs.Common.{◌≡◌, []}
-use Rattle.ob_space.specs.Examples.{functions}
-use Rattle.ob_space.proofs.tests.full_stack.Given as goal
-
-abbrev pub invariant-loop-link : goal.invariant-loop-link
-invariant-loop-link g l = (l.space.functions ≡ functions) × (l.space.space.next ≡ 1) × (l.space.statics ≡ [])
-
-abbrev pub invariant-loop-link-2 : goal.invariant-loop-link-2
-invariant-loop-link-2 g l = (l.space.functions ≡ functions) × (l.space.space.next ≡ 1) × (l.space.statics ≡ [])
