@@ -92,6 +92,7 @@ fn runs(
     written: &[u8],
 ) -> Result<(), Fail> {
     let mut machine = loaded(rt, alloc, &ECHO)?;
+    assert!(rt; machine.is_fresh());
     let mut input = MemSource::new(alloc, b"x", &[], 1)?;
     let mut out = MemSink::new(alloc, 16, &[], 1)?;
     let first = machine.run(100, &mut input, &mut out);
@@ -117,6 +118,7 @@ fn devices_that_fail(rt: HostRuntime) -> Result<(), Fail> {
 // twice.
 fn reads_on(rt: &impl Abort, alloc: Global, read: u64, ending: Ending) -> Result<MemSource, Fail> {
     let mut machine = loaded(rt, alloc, &READ_ON)?;
+    assert!(rt; machine.is_fresh());
     let mut input = MemSource::new(alloc, b"x", &[read], 1)?;
     let mut out = MemSink::new(alloc, 16, &[], 1)?;
     assert_eq!(rt; machine.run(100, &mut input, &mut out), ending);
@@ -146,6 +148,7 @@ const DOTS: [Instr; 3] = [
 fn pieces_of_4096_bytes(rt: HostRuntime) -> Result<(), Fail> {
     let alloc = rt.alloc();
     let mut machine = loaded(&rt, alloc, &DOTS)?;
+    assert!(&rt; machine.is_fresh());
     let mut input = MemSource::new(alloc, b"", &[0], 1)?;
     let mut out = MemSink::new(alloc, 16_384, &[1], 16_384)?;
     assert_eq!(&rt;
@@ -162,6 +165,7 @@ fn no_call_without_need(rt: HostRuntime) -> Result<(), Fail> {
     let alloc = rt.alloc();
     let code = [Instr::Set { a: 2, imm: 7 }, Instr::Return { b: 2 }];
     let mut machine = loaded(&rt, alloc, &code)?;
+    assert!(&rt; machine.is_fresh());
     let mut input = MemSource::new(alloc, b"x", &[0], 1)?;
     let mut out = MemSink::new(alloc, 16, &[0], 1)?;
     assert_eq!(&rt; machine.run(100, &mut input, &mut out), Ending::Ended(7));
