@@ -2,6 +2,9 @@
 //! Promises: a pair of an object and an offset has one word for as long as it is listed, a new pair
 //! gets the least free slot, and the answer is `Full` exactly where no slot is free. Stands on ob_model
 //! for the slots and their words and on ob_base for `NoMemory`; after `new` it takes no memory.
+//!
+//! To be believed: specs/Slots, over ob_model's Descriptors (slots, the least free one, their words).
+//! Kept and Enters serve the proof.
 #![tactic(auto)]
 
 pub use table::{AwayTable, Full};

@@ -4,7 +4,7 @@ use Rattle.ob_model.specs.declared.settings.Profile.{Profile}
 use Rattle.ob_code.specs.declared.image.Image.{Image}
 use Rattle.ob_code.specs.declared.instructions.Instr.{Instr}
 use Rattle.ob_code.specs.declared.instructions.Instr.TheVariants as instr
-use Rattle.ob_code.specs.Rules.{AreSound, AreOperandsSound, IsCodeOf, IsCodeSound, IsInstructionSound, IsEntrySound, IsFunctionSound, AreFunctionsSound, IsMainSound, IsAllCodeSound, IsStaticNameSound, IsHeldSound, IsNameRowSound, AreNamesSound, IsVerified, instruction_at}
+use Rattle.ob_code.specs.Rules.{AreOperandsSound, IsCodeSound, IsInstructionSound, IsEntrySound, AreFunctionsSound, IsNameRowSound, IsVerified, instruction_at}
 
 abbrev for_profile : Profile → Image → Image
 for_profile p image = record image { profile = p }
@@ -64,8 +64,7 @@ held_for p image i h =
       ];
       kind = h.kind;
       whole = h.whole;
-      name = h.name;
-      short = h.short;
+      text = h.text;
     }
 
 pub verified_for : (p : Profile) (image : Image) → IsVerified image → IsVerified (for_profile p image)

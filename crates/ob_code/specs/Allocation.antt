@@ -7,7 +7,7 @@ use Rattle.ob_model.specs.declared.settings.Profile.TheVariants.{One, Two}
 use Rattle.ob_model.specs.declared.strays.Act.TheVariants as act
 use Rattle.ob_model.specs.declared.strays.StrayEvent.{StrayEvent}
 use Rattle.ob_model.specs.Accesses.{stray_event}
-use Rattle.ob_model.specs.Entries.{Known, with_live}
+use Rattle.ob_model.specs.Entries.{with_live}
 use Rattle.ob_model.specs.Heap.{with_object}
 use Rattle.ob_model.specs.Limits.{heap_start}
 use Rattle.ob_model.specs.Objects.{frees}

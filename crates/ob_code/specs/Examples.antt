@@ -4,7 +4,6 @@ use Rattle.ob_words.specs.declared.types.BinOp.TheVariants.{Add, Div, Shr}
 use Rattle.ob_words.specs.declared.types.IntType.TheVariants.{Char as char_type, Int as int_type, Long as long_type, ULong as unsigned_long}
 use Rattle.ob_words.specs.declared.types.Relation.TheVariants.{Lt}
 use Rattle.ob_model.specs.declared.settings.Mode.{Mode}
-use Rattle.ob_model.specs.declared.settings.Profile.{Profile}
 use Rattle.ob_model.specs.declared.settings.Profile.TheVariants.{One}
 use Rattle.ob_model.specs.declared.settings.RunSettings.{RunSettings}
 use Rattle.ob_model.specs.declared.values.LoadKind.TheVariants.{Num, Ptr}

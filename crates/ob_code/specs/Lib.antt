@@ -1,6 +1,5 @@
 pub mod Limits
 pub mod Kinds
-pub mod Names
 pub mod State
 pub mod Frames
 pub mod Pointers

@@ -1,6 +1,7 @@
 -- The rules of an image, row by row, rows counted from 0. An image that keeps them all can be run: its objects lie apart, its
 -- frames have words and bytes for what their functions use, and no run leaves the code.
-use Rattle.std.specs.Prelude.{◌≡◌, ◌≢◌, ℕ, ◌+◌, ◌-◌, ◌%◌, ◌^◌, ◌≤◌, ◌<◌, ◌⊎◌, ℤ, pos, negsuc, unsigned_abs, List, [], length, take, slice_get, slice_index, slice_index_or, Option, Some, None}
+use Rattle.std.specs.Prelude.{◌≡◌, ◌≢◌, ℕ, ◌+◌, ◌-◌, ◌%◌, ◌≤◌, ◌<◌, ◌⊎◌, ℤ, pos, negsuc, unsigned_abs, List, [], length, take, slice_get, slice_index, slice_index_or, Option, Some, None}
+use Rattle.ob_base.specs.Names.{IsName}
 use Rattle.ob_words.specs.declared.types.Relation.{Relation}
 use Rattle.ob_words.specs.declared.types.Relation.TheVariants.{Lt, Gt, Le, Ge, Eq, Ne}
 use Rattle.ob_code.specs.declared.image.FunctionRow.{FunctionRow}
@@ -18,7 +19,6 @@ use Rattle.ob_model.specs.Limits.{most_object_bytes, most_static_bytes}
 use Rattle.ob_code.specs.Kinds.{load_kind_of, no_load_kind}
 use Rattle.ob_code.specs.Layout.{static_blocks, no_local, local_of}
 use Rattle.ob_code.specs.Limits.{most_statics, most_pointers, most_functions, most_instructions, most_names, most_words, most_variables, most_allowance, most_scale, most_name_bytes}
-use Rattle.ob_code.specs.Names.{IsName}
 
 -- ---- static objects
 
@@ -257,14 +257,18 @@ IsHeldSound image row =
     ((row.holder ≡ 0) × IsStaticNameSound image row)
     ⊎ ((1 ≤ row.holder) × (row.holder ≤ length image.functions) × IsVariableNameSound (function_at image.functions (row.holder - 1)) row)
 
+-- the text of a name, whose length is limited
+pub record IsShortName (text : List ℕ) : Type 0 where
+  pub name : IsName text
+  pub short : length text ≤ most_name_bytes
+
 -- rows increase by holder and ordinal; an array or structure has no frame word, and no kind is greater; the name is one
 pub record IsNameRowSound (image : Image) (i : ℕ) : Type 0 where
   pub order : 0 < i → IsNamedBefore (name_at image.names (i - 1)) (name_at image.names i)
   pub held : IsHeldSound image (name_at image.names i)
   pub kind : (name_at image.names i).kind ≤ no_load_kind
   pub whole : (name_at image.names i).kind ≡ no_load_kind → (name_at image.names i).word ≡ 0
-  pub name : IsName (name_at image.names i).name
-  pub short : length (name_at image.names i).name ≤ most_name_bytes
+  pub text : IsShortName (name_at image.names i).name
 
 -- ---- the whole image
 

@@ -6,8 +6,8 @@
 //!
 //! To be believed are, in specs/: State, Frames, Pointers, Accesses, Allocation, Layout, Machine and Start
 //! (what each instruction does to a state of lists, and the run of an image), Standing (what it is for a
-//! word to stand for a value), Shown (what shows of a state), Rules with Limits, Kinds and Names (the
-//! rules of an image), and FirstFault. Examples and Laws are what the laws speak of.
+//! word to stand for a value), Shown (what shows of a state), Rules with Limits and Kinds (the rules
+//! of an image; what a name is stands in ob_base), and FirstFault. Examples and Laws are what the laws speak of.
 #![tactic(auto)]
 
 pub use faults::{BadImage, Part};

@@ -1,7 +1,7 @@
 ghost use Rattle.std.specs.Prelude.{◌≡◌, ◌≤◌, ◌∷◌, [], IfOk, Some};
 ghost use Rattle.ob_tree.specs.Trees.{SpecTree};
 ghost use Rattle.ob_tree.specs.ExprStates.{AfterSpec, BeforeOperand};
-ghost use Rattle.ob_tree.specs.ExprMachine.{is_spec_word, operand as operand_of, operand_sign as operand_sign_of, operand_word as operand_word_of, spec_word as spec_word_of, specifier as specifier_of};
+ghost use Rattle.ob_tree.specs.ExprMachine.{operand as operand_of, operand_sign as operand_sign_of, operand_word as operand_word_of, spec_word as spec_word_of, specifier as specifier_of};
 ghost use Rattle.ob_exprs.specs.DeepestPaths.{depth_of, rise as rise_of};
 ghost use Rattle.ob_exprs.specs.Reading.{Leads, held};
 ghost use Rattle.ob_exprs.specs.View.{pending_of, mark};
@@ -90,24 +90,6 @@ pub fn operand(
         stack,
         mode: Mode::AfterOperand(operand),
     }))
-}
-
-/// Whether a specifier can begin with the word.
-pub fn begins_spec(word: Keyword) -> bool
-    ensures { result ≡ is_spec_word word }
-{
-    match word {
-        Keyword::Void
-        | Keyword::SizeT
-        | Keyword::Char
-        | Keyword::Short
-        | Keyword::Int
-        | Keyword::Long
-        | Keyword::Signed
-        | Keyword::Unsigned
-        | Keyword::Struct => true,
-        _ => false,
-    }
 }
 
 fn integer_word(

@@ -10,7 +10,7 @@ use crate::level::CAST;
 use crate::lists::no_arguments;
 use crate::measured::Operand;
 use crate::nodes::{call, selected};
-use crate::operands::{begins_spec, operand, operand_word, spec_word};
+use crate::operands::{operand, operand_word, spec_word};
 use crate::reader::Reader;
 use crate::stack::{Stack, push, top_operand_level};
 use crate::state::{ExprMark, Mode, PendingNode};
@@ -30,7 +30,7 @@ fn opened_word(
     requires { depth_of (held stack) ≤ 1000 }
     ensures { IfOk result (λ o. Leads o (opened_word_of least (mark place) word (mark paren) (held stack))) }
 {
-    if !begins_spec(word) {
+    if !word.begins_specifier() {
         let stack = push(stack, PendingNode::Paren(paren))?;
         return operand_word(alloc, stack, word, place);
     }
@@ -97,7 +97,7 @@ fn size_opened_word(
     requires { depth_of (held stack) ≤ 1000 }
     ensures { IfOk result (λ o. Leads o (size_opened_word_of (mark place) word (mark size) (mark paren) (held stack))) }
 {
-    if begins_spec(word) {
+    if word.begins_specifier() {
         let stack = push(stack, PendingNode::Type(size, true))?;
         return spec_word(alloc, stack, word, place.first);
     }

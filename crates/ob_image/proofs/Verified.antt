@@ -1,15 +1,8 @@
 -- A verified image keeps what the format asks beyond the types of its fields. So it has a spelling in version 2.
-use Rattle.std.proofs.Common.{◌≡◌, ℕ, zero, suc, ◌+◌, ◌-◌, ◌<◌, ◌≤◌, Bool, true, false, List, [], ◌∷◌, ◌++◌, length, take, get_or, refl, sym, ap, subst, arith, inl, inr}
-use Rattle.std.specs.Prelude.{slice_index_or}
-use Rattle.std.specs.Prelude.{◌&&◌, ◌||◌, ◌⊎◌, not}
+use Rattle.std.proofs.Common.{◌≡◌, ℕ, zero, suc, ◌+◌, ◌-◌, ◌<◌, ◌≤◌, List, [], ◌∷◌, ◌++◌, length, take, get_or, refl, sym, ap, subst, arith, inl, inr}
+use Rattle.std.specs.Prelude.{◌⊎◌, slice_index_or}
 use Rattle.std.proofs.lemmas.Option.{slice_get_cases, slice_get-get_or}
-use Rattle.std.specs.List.{AllByRecursion, list_all, list_any}
-use Rattle.std.specs.Str.{bytes_eq}
-use Rattle.std.proofs.lemmas.Slice.Eq.{bytes_eq-Decides}
-use Rattle.ob_base.specs.Names.{is_letter, is_digit, is_name_byte, is_reserved, reserved_words, begins_with, IsName}
-use Rattle.ob_code.specs.Names as verified
-use Rattle.ob_image.proofs.Readers.{yes, no, tested}
-use Rattle.ob_image.proofs.Tests.{both_are}
+use Rattle.std.specs.List.{AllByRecursion}
 use Rattle.std.proofs.lemmas.Bool.{cases_lt}
 use Rattle.std.proofs.Math.Seq.{take-suc}
 use Rattle.ob_code.specs.declared.image.FunctionRow.{FunctionRow}
@@ -148,43 +141,9 @@ code_rules image v =
 
 -- ---- names
 
--- what `verify` calls a name is one: it compares a word with the text, and not the text with a word
-reserved_so : (words : List (List ℕ)) (text : List ℕ) → list_any (bytes_eq text) words ≡ true → list_any (λ word. bytes_eq word text) words ≡ true
-reserved_so [] text e = absurd cc
-reserved_so (w ∷ words) text e =
-    elim (tested (bytes_eq text w)) [
-      | yes t ↦ rw ((bytes_eq-Decides w text).1 (sym ((bytes_eq-Decides text w).0 t))) refl
-      | no t ↦ or_right (bytes_eq w text) (list_any (λ word. bytes_eq word text) words) (reserved_so words text (rw t at e))
-    ] where
-      or_right : (s t : Bool) → t ≡ true → (s || t) ≡ true
-      or_right true t e = refl
-      or_right false t e = e
-
-not_so : (r : Bool) → (r ≡ true → ⊥) → not r ≡ true
-not_so true h = absurd (h refl)
-not_so false h = refl
-
-letter_so : (text : List ℕ) → verified.begins_with_letter text ≡ true → begins_with is_letter text ≡ true
-unfolding is_letter
-letter_so [] e = e
-letter_so (c ∷ text) e = e
-
-bytes_so : (text : List ℕ) → list_all verified.is_name_byte text ≡ true → list_all is_name_byte text ≡ true
-unfolding is_name_byte is_letter is_digit
-bytes_so text e = e
-
-unreserved_so : (text : List ℕ) → (verified.is_reserved text ≡ true → ⊥) → not (is_reserved text) ≡ true
-unfolding verified.reserved_words
-unreserved_so text h = not_so (is_reserved text) (λ e. h (reserved_so reserved_words text e))
-
-name_so : (text : List ℕ) → verified.IsName text → IsName text
-name_so text is =
-    both_are (begins_with is_letter text) (list_all is_name_byte text && not (is_reserved text)) (letter_so text is.first)
-    (both_are (list_all is_name_byte text) (not (is_reserved text)) (bytes_so text is.letters) (unreserved_so text is.unreserved))
-
 -- a name is at most as long as `verify` says, and so its length is a number of four bytes
 name_rule : (image : Image) (i : ℕ) → IsNameRowSound image i → NameRule (slice_index_or image.names i no_name)
-name_rule image i s = (s.kind, omega (arith, s.short), name_so (slice_index_or image.names i no_name).name s.name)
+name_rule image i s = (s.kind, omega (arith, s.text.short), s.text.name)
 
 name_rules : (image : Image) → IsVerified image → AllByRecursion NameRule image.names
 name_rules image v = all_rows NameRule no_name image.names (λ i lt. name_rule image i (v.names.each i lt))

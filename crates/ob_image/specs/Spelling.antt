@@ -11,6 +11,7 @@ use Rattle.ob_code.specs.declared.image.NameRow.{NameRow}
 use Rattle.ob_code.specs.declared.image.PointerRow.{PointerRow}
 use Rattle.ob_code.specs.declared.image.StaticRow.{StaticRow}
 use Rattle.ob_model.specs.Limits.{most_object_bytes}
+use Rattle.ob_code.specs.Kinds.{no_load_kind}
 use Rattle.ob_code.specs.Limits.{most_statics, most_pointers, most_functions, most_variables, most_instructions, most_names}
 use Rattle.ob_base.specs.Names.{IsName}
 use Rattle.ob_image.specs.declared.layout.Version.{Version}
@@ -110,8 +111,9 @@ pub record IsFunction (row : FunctionRow) : Type 0 where
   pub allowance : row.allowance ≤ any_number
   pub locals : AreRows most_variables IsLocal row.locals
 
+-- the greatest number of a kind: that of arrays and structures
 abbrev pub most_kind : ℕ
-most_kind = 12
+most_kind = no_load_kind
 
 pub record IsNameRow (row : NameRow) : Type 0 where
   pub holder : row.holder ≤ any_word

@@ -5,6 +5,10 @@
 //!
 //! Stands on `ob_space` for memory, on `ob_code` for images and the definition, on `ob_model` for endings,
 //! on `ob_base` for devices, and on `ob_words` for arithmetic.
+//!
+//! To be believed, over the definition of the machine in `ob_code`: specs/Machines (an image that is loaded
+//! and what a run of it gives), Devices and Progress, which the laws in Laws speak of. Buffers, Exchanges,
+//! Executions, Effects, Finished and Wiring serve the proof.
 #![tactic(auto)]
 
 pub use laws::{law_places, law_spent};

@@ -11,7 +11,6 @@ use crate::declarations::specified;
 use crate::paths::{depth_of_expr, level_of, newest_path, spec_depth};
 use crate::shifts::shift;
 use crate::state::{ExprContext, Shift, SpecContext, State, TokenMark};
-use crate::statements::begins_spec;
 use ob_exprs::{parse_expr, parse_spec};
 use ob_tree::{SyntaxFault, Token, TokenKind};
 use std::alloc::Global;
@@ -62,7 +61,7 @@ fn deep_spec(context: SpecContext, kind: &TokenKind, at: u32) -> SyntaxFault
 {
     let _unread = context;
     match kind {
-        TokenKind::Word(word) if begins_spec(*word) => SyntaxFault::TooDeep(at),
+        TokenKind::Word(word) if word.begins_specifier() => SyntaxFault::TooDeep(at),
         _ => SyntaxFault::NoTree(at),
     }
 }

@@ -1,5 +1,4 @@
 ghost use Rattle.std.specs.Prelude.{◌≡◌, ◌∷◌, IfOk};
-ghost use Rattle.ob_tree.specs.ExprMachine.{is_spec_word};
 ghost use Rattle.ob_tree.specs.ProgramStates.{InBlock};
 ghost use Rattle.ob_tree.specs.ProgramMachine.{begin as begin_of, begins_declaration as begins_declaration_of, block_item as block_item_of, for_start as for_start_of, statement as statement_of};
 ghost use Rattle.ob_parser.specs.Statements.{begins_local as begins_local_of, begins_statement as begins_statement_of, begins_type as begins_type_of, begun as begun_of, ends_block as ends_block_of, is_statement_word as is_statement_word_of, word_begun as word_begun_of};
@@ -17,31 +16,13 @@ use ob_base::NoMemory;
 use ob_tree::{BlockItem, Keyword, Sign, TokenKind};
 use std::alloc::Global;
 
-/// Whether a specifier begins with the word.
-pub fn begins_spec(word: Keyword) -> bool
-    ensures { result ≡ is_spec_word word }
-{
-    match word {
-        Keyword::Void
-        | Keyword::SizeT
-        | Keyword::Char
-        | Keyword::Short
-        | Keyword::Int
-        | Keyword::Long
-        | Keyword::Signed
-        | Keyword::Unsigned
-        | Keyword::Struct => true,
-        _ => false,
-    }
-}
-
 /// Whether a declaration begins with the word.
 fn begins_declaration(word: Keyword) -> bool
     ensures { result ≡ begins_declaration_of word }
 {
     match word {
         Keyword::Static => true,
-        _ => begins_spec(word),
+        _ => word.begins_specifier(),
     }
 }
 
@@ -258,7 +239,7 @@ fn begins_type(kind: &TokenKind) -> bool
     ensures { result ≡ begins_type_of kind.now }
 {
     match kind {
-        TokenKind::Word(word) => begins_spec(*word),
+        TokenKind::Word(word) => word.begins_specifier(),
         _ => false,
     }
 }

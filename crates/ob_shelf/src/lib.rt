@@ -2,6 +2,9 @@
 //! it meets no live block and ends within the heap, `None` comes exactly where there is no such place, and
 //! freed neighbours count as one gap. Stands on ob_model and ob_words for the rule and on ob_base for
 //! `NoMemory`; after `new` it takes no memory.
+//!
+//! To be believed: specs/Places, over ob_model's Heap (blocks, and the least place for one). Blocks serves
+//! the proof.
 #![tactic(auto)]
 
 pub use shelf::Shelf;

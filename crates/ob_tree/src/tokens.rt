@@ -1,3 +1,6 @@
+ghost use Rattle.std.specs.Prelude.{◌≡◌};
+ghost use Rattle.ob_tree.specs.ExprMachine.{is_spec_word};
+
 use ob_base::Text;
 use ob_words::IntType;
 
@@ -77,6 +80,26 @@ pub enum Keyword {
     Bool,
     Complex,
     Imaginary,
+}
+
+impl Keyword {
+    /// Whether a type specifier begins with the word (C99 6.7.2).
+    pub fn begins_specifier(self) -> bool
+        ensures { result ≡ is_spec_word self }
+    {
+        match self {
+            Keyword::Void
+            | Keyword::SizeT
+            | Keyword::Char
+            | Keyword::Short
+            | Keyword::Int
+            | Keyword::Long
+            | Keyword::Signed
+            | Keyword::Unsigned
+            | Keyword::Struct => true,
+            _ => false,
+        }
+    }
 }
 
 /// A punctuator (C99 6.4.6).

@@ -1,16 +1,14 @@
 ghost use Rattle.std.specs.Prelude.{◌≡◌, ℕ, ◌+◌, ◌-◌, ◌<◌, ◌≤◌, ◌⊎◌, ◌↔◌, IsTrue, length};
-ghost use Rattle.std.specs.List.{list_all, list_any};
-ghost use Rattle.std.specs.Str.{bytes_eq};
 ghost use Rattle.ob_code.specs.Frames.{function_at};
 ghost use Rattle.ob_code.specs.Layout.{local_of};
-ghost use Rattle.ob_code.specs.Names.{is_letter, is_name_byte, is_reserved, begins_with_letter, IsName};
-ghost use Rattle.ob_code.specs.Rules.{IsNamedBefore, least_bytes, IsWritten, IsStaticNameSound, IsLocalLong, IsVariableNameSound, IsHeldSound, IsNameRowSound};
+ghost use Rattle.ob_code.specs.Rules.{IsNamedBefore, least_bytes, IsWritten, IsStaticNameSound, IsLocalLong, IsVariableNameSound, IsHeldSound, IsShortName, IsNameRowSound};
 ghost use Rattle.ob_code.specs.FirstFault.{IsPartAnswer};
 ghost use Rattle.ob_code.specs.Limits.{most_names};
 
 use crate::image::{FunctionRow, Image, LocalRow, NameRow, StaticRow};
 use crate::rules::code::is_written;
 use crate::rules::pointers::has_static;
+use ob_base::is_name;
 
 const MOST_NAMES: usize = 1_048_576;
 
@@ -19,96 +17,10 @@ const MOST_NAME_BYTES: usize = 1_048_576;
 // The number of arrays and structures among the kinds of names.
 const NO_LOAD_KIND: u32 = 12;
 
-/// The words that are no names (C99 6.4.1), and those that this language reserves.
-const RESERVED: [&[u8]; 40] = [
-    b"break",
-    b"char",
-    b"continue",
-    b"do",
-    b"else",
-    b"for",
-    b"if",
-    b"int",
-    b"long",
-    b"return",
-    b"short",
-    b"signed",
-    b"sizeof",
-    b"static",
-    b"struct",
-    b"unsigned",
-    b"void",
-    b"while",
-    b"NULL",
-    b"EOF",
-    b"size_t",
-    b"auto",
-    b"case",
-    b"default",
-    b"double",
-    b"enum",
-    b"extern",
-    b"float",
-    b"goto",
-    b"inline",
-    b"switch",
-    b"typedef",
-    b"union",
-    b"volatile",
-    b"_Bool",
-    b"_Complex",
-    b"_Imaginary",
-    b"const",
-    b"register",
-    b"restrict",
-];
-
-fn is_letter(c: u8) -> bool
-    ensures { result ≡ is_letter c }
+fn is_short_name(text: &[u8]) -> bool
+    ensures { IsTrue result ↔ IsShortName text.now }
 {
-    c.is_ascii_alphabetic() || c == b'_'
-}
-
-fn is_name_byte(c: u8) -> bool
-    ensures { result ≡ is_name_byte c }
-{
-    is_letter(c) || c.is_ascii_digit()
-}
-
-fn begins_with_letter(text: &[u8]) -> bool
-    ensures { result ≡ begins_with_letter text.now }
-{
-    match text.first() {
-        Some(c) => is_letter(*c),
-        None => false,
-    }
-}
-
-fn are_name_bytes(text: &[u8]) -> bool
-    ensures { result ≡ list_all is_name_byte text.now }
-{
-    text.iter().all(|c| is_name_byte(*c))
-}
-
-#[tactic(auto, unfolding(crate::specs::Names::reserved_words))]
-fn is_reserved(text: &[u8]) -> bool
-    ensures { result ≡ is_reserved text.now }
-{
-    is_one_of(&RESERVED, text)
-}
-
-// Whether one of these words has this text.
-fn is_one_of(words: &[&[u8]], text: &[u8]) -> bool
-    ensures { result ≡ list_any (λ word. bytes_eq word.now text.now) words.now }
-{
-    words.iter().any(|word| *word == text)
-}
-
-/// Whether the bytes are a name.
-fn is_name(text: &[u8]) -> bool
-    ensures { IsTrue result ↔ IsName text.now }
-{
-    begins_with_letter(text) && are_name_bytes(text) && !is_reserved(text)
+    is_name(text) && text.len() <= MOST_NAME_BYTES
 }
 
 // How many bytes a variable of this kind has at least.
@@ -194,12 +106,10 @@ fn name_row_is_sound(image: &Image, i: usize) -> bool
     ensures { IsTrue result ↔ IsNameRowSound image.now i }
 {
     let rows = image.names.as_slice();
-    let name = rows[i].name.bytes();
     (i == 0 || is_named_before(&rows[i - 1], &rows[i]))
         && held_is_sound(image, &rows[i])
         && kind_is_sound(&rows[i])
-        && is_name(name)
-        && name.len() <= MOST_NAME_BYTES
+        && is_short_name(rows[i].name.bytes())
 }
 
 /// The first row of names that breaks a rule.
