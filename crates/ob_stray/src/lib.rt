@@ -7,11 +7,12 @@
 //! It stands on ob_model for the list, on the kit's `lru` for its order, and on ob_base for `NoMemory`.
 //!
 //! What a call costs: `new` takes no memory in proportion to the bound; a store takes it as the list
-//! grows. `load` costs one look-up by hash and `store` at most three, however long the list is. Beside
-//! the list stands the set of the objects that have had an entry and live. `forget` of any other object
-//! is one look-up in that set. `forget` of an object in it takes it out of the set and goes over the
-//! list once, with one look-up for each entry that stays; so an object pays for such a walk once. `clear`
-//! goes over the list once. `load`, `forget` and `clear` take no memory.
+//! grows. `load` costs one look-up by hash, and `store` at most three with an insertion and, in a full
+//! list, a removal, however long the list is. Beside the list stands the set of the objects that have had
+//! an entry, or were refused memory for one, since they were last forgotten. `forget` of any other object
+//! is one look-up in that set. `forget` of an object in it takes it out of the set and goes over the list
+//! once, with one look-up for each entry; so an object pays for such a walk once. `clear` takes out one
+//! entry after the other, and empties the set. `load`, `forget` and `clear` take no memory.
 //!
 //! To be believed: specs/Store. specs/Kept says how a store is kept, and serves the proof alone.
 #![tactic(auto)]
