@@ -14,7 +14,7 @@ fn words(alloc: Global, line: &str) -> Result<Vec<String>, AllocError> {
 }
 
 // Each line with the place of its argument; 0 where it asks for nothing.
-const ROWS: [(&str, usize); 64] = [
+const ROWS: [(&str, usize); 124] = [
     ("run hello.c", 1),
     ("compile hello.c", 1),
     ("exec hello.image", 1),
@@ -79,6 +79,66 @@ const ROWS: [(&str, usize); 64] = [
     ("sample 1000 --steps 5", 1),
     ("sample 1001", 0),
     ("sample 0", 0),
+    ("run ", 1),
+    ("run --steps 5", 0),
+    ("run --steps 5 a.c --heap=6", 3),
+    ("run a.c --steps 5 b.c", 0),
+    ("run a.c -", 0),
+    ("run - -", 0),
+    ("run -h", 0),
+    ("run a.c -h", 0),
+    ("run a.c --verbose", 0),
+    ("run a.c --Steps 5", 0),
+    ("run a.c --step 5", 0),
+    ("run a.c -steps 5", 0),
+    ("run a.c --steps 5=", 0),
+    ("run a.c --steps=-1", 0),
+    ("run a.c --steps=+1", 0),
+    ("run a.c --steps -- 5", 0),
+    ("run a.c --steps=01000000000", 0),
+    ("run a.c --steps 9999999999", 0),
+    ("run a.c --store=0000000001", 1),
+    ("run a.c --store=01048577", 0),
+    ("run a.c --store 1 --store=1", 0),
+    ("run --away=1 a.c --away 1", 0),
+    ("run a.c --away -1", 0),
+    ("run a.c --heap=1 --away=1 --heap=1", 0),
+    ("run a.c --heap", 0),
+    ("run a.c --mode oblivious", 1),
+    ("run a.c --mode=oblivious", 1),
+    ("run a.c --mode=", 0),
+    ("run a.c --mode=bounded", 0),
+    ("run a.c --mode=boundless --mode=boundless", 0),
+    ("run a.c --maker small", 1),
+    ("run a.c --maker=zero", 1),
+    ("run a.c --maker=0", 0),
+    ("run a.c --maker small --maker zero", 0),
+    ("run a.c --profile 1", 1),
+    ("run a.c --profile 01", 0),
+    ("run a.c --profile=1 --profile 2", 0),
+    ("run --report a.c", 2),
+    ("run --report --report a.c", 0),
+    ("run a.c --report=", 0),
+    ("run a.c --report yes", 0),
+    ("run a.c --report --", 1),
+    ("run -- a.c", 2),
+    ("run -- -x.c", 2),
+    ("run --steps 5 -- -x.c", 4),
+    ("run --steps 5 --", 0),
+    ("run a.c --steps --", 0),
+    ("sample", 0),
+    ("sample 1", 1),
+    ("sample 7 8", 0),
+    ("sample 0000000007", 1),
+    ("sample 00000000007", 0),
+    ("sample -7", 0),
+    ("sample -- 7", 2),
+    ("sample x", 0),
+    ("sample ", 0),
+    ("migrate", 0),
+    ("migrate a b", 0),
+    ("Run a.c", 0),
+    ("--steps 5 run a.c", 0),
 ];
 
 #[test]
@@ -92,6 +152,91 @@ fn lines(rt: HostRuntime) -> Result<(), Fail> {
         };
         assert_eq!(&rt; at, *place, "at {line}");
     }
+    Ok(())
+}
+
+const OPTIONS: [&str; 8] = [
+    "--mode=boundless",
+    "--steps=5",
+    "--store=5",
+    "--away=5",
+    "--heap=5",
+    "--maker=zero",
+    "--profile=2",
+    "--report",
+];
+
+// Each command with an argument, and which of these options it has.
+const COMMANDS: [(&str, [bool; 8]); 7] = [
+    ("run a", [true, true, true, true, true, true, true, true]),
+    ("exec a", [true, true, true, true, true, true, true, true]),
+    ("audit a", [true, true, true, true, true, true, true, false]),
+    (
+        "sample 7",
+        [true, true, true, true, true, true, true, false],
+    ),
+    (
+        "compile a",
+        [false, false, false, false, false, false, true, false],
+    ),
+    (
+        "check a",
+        [false, false, false, false, false, false, false, false],
+    ),
+    (
+        "migrate a",
+        [false, false, false, false, false, false, false, false],
+    ),
+];
+
+#[test]
+fn options_of_commands(rt: HostRuntime) -> Result<(), Fail> {
+    let alloc = rt.alloc();
+    for (line, had) in &COMMANDS {
+        for i in 0..8 {
+            let mut given = words(alloc, line)?;
+            given.push(String::from_str(alloc, OPTIONS[i])?)?;
+            let answer = read_words(alloc, &given);
+            assert_eq!(&rt; answer.is_ok(), had[i], "{line} {i}");
+        }
+    }
+    Ok(())
+}
+
+#[test]
+fn defaults(rt: HostRuntime) -> Result<(), Fail> {
+    let given = words(rt.alloc(), "run a.c")?;
+    let Ok(job) = read_words(rt.alloc(), &given) else {
+        assert!(&rt; false, "no job");
+        return Ok(());
+    };
+    assert_eq!(&rt; (job.has_maker(0), job.has_maker(1)), (false, true));
+    assert_eq!(&rt; (job.verb, job.at, job.steps), (Verb::Run, 1, 10_000_000));
+    assert_eq!(&rt;
+        (job.maker, job.report, job.number, job.profile),
+        (0, false, 0, 0)
+    );
+    let settings = job.settings;
+    assert_eq!(&rt;
+        (settings.mode, settings.profile),
+        (Mode::Oblivious, Profile::One)
+    );
+    assert_eq!(&rt;
+        (settings.store, settings.away, settings.heap),
+        (65_536, 65_536, 4_194_304)
+    );
+    Ok(())
+}
+
+#[test]
+fn number_of_a_sample(rt: HostRuntime) -> Result<(), Fail> {
+    let given = words(rt.alloc(), "sample --steps 5 0017")?;
+    let Ok(job) = read_words(rt.alloc(), &given) else {
+        assert!(&rt; false, "no job");
+        return Ok(());
+    };
+    assert_eq!(&rt; (job.verb, job.number, job.steps), (Verb::Sample, 17, 5));
+    assert_eq!(&rt; job.argument.bytes(), b"0017".as_slice());
     Ok(())
 }
 
