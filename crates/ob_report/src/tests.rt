@@ -1,13 +1,15 @@
 //! Each printed text, as a user reads it.
 
 use crate::{
-    VerdictLine, bad_image_line, diagnostic, ending_line, file_fault_line, file_long_line,
-    not_yet_line, report, usage_line, verdict_text,
+    SampleRun, VerdictLine, bad_image_line, diagnostic, ending_line, file_fault_line,
+    file_long_line, not_yet_line, report, sample_line, usage_line, verdict_text,
 };
 use ob_code::{BadImage, Part};
 use ob_model::{Act, Ending, StrayEvent};
 use ob_tree::{LexKind, SourceFault, SyntaxKind, TypeKind};
 use ob_watch::{Counter, FirstEvents, Watcher};
+use std::alloc::Global;
+use std::process::Abort;
 use std::test::Fail;
 
 const DIAGNOSTICS: [(SourceFault, &str); 8] = [
@@ -60,6 +62,123 @@ const DIAGNOSTICS: [(SourceFault, &str); 8] = [
 fn diagnostics(rt: HostRuntime) -> Result<(), Fail> {
     for (fault, want) in &DIAGNOSTICS {
         let text = diagnostic(rt.alloc(), "a.c", fault)?;
+        assert_eq!(rt; text.bytes(), want.as_bytes(), "{want}");
+    }
+    Ok(())
+}
+
+const LEX_KINDS: [(LexKind, &str); 3] = [
+    (LexKind::Stray, "b.c:2:9: lex Stray\n"),
+    (LexKind::Unclosed, "b.c:2:9: lex Unclosed\n"),
+    (LexKind::Wide, "b.c:2:9: lex Wide\n"),
+];
+
+const SYNTAX_KINDS: [(SyntaxKind, &str); 2] = [
+    (SyntaxKind::NoTree, "b.c:2:9: syntax NoTree\n"),
+    (SyntaxKind::TooDeep, "b.c:2:9: syntax TooDeep\n"),
+];
+
+const TYPE_KINDS: [(TypeKind, &str); 12] = [
+    (TypeKind::Unknown, "b.c:2:9: type Unknown\n"),
+    (TypeKind::Twice, "b.c:2:9: type Twice\n"),
+    (TypeKind::Incomplete, "b.c:2:9: type Incomplete\n"),
+    (TypeKind::NotPlace, "b.c:2:9: type NotPlace\n"),
+    (TypeKind::Operand, "b.c:2:9: type Operand\n"),
+    (TypeKind::Assign, "b.c:2:9: type Assign\n"),
+    (TypeKind::Count, "b.c:2:9: type Count\n"),
+    (TypeKind::NotFunction, "b.c:2:9: type NotFunction\n"),
+    (TypeKind::Member, "b.c:2:9: type Member\n"),
+    (TypeKind::Constant, "b.c:2:9: type Constant\n"),
+    (TypeKind::Jump, "b.c:2:9: type Jump\n"),
+    (TypeKind::NoBody, "b.c:2:9: type NoBody\n"),
+];
+
+fn says(rt: &impl Abort, alloc: Global, fault: SourceFault, want: &str) -> Result<(), Fail> {
+    let text = diagnostic(alloc, "b.c", &fault)?;
+    assert_eq!(rt; text.bytes(), want.as_bytes(), "{want}");
+    Ok(())
+}
+
+#[test]
+fn every_kind(rt: HostRuntime) -> Result<(), Fail> {
+    let (line, column) = (2, 9);
+    for (kind, want) in &LEX_KINDS {
+        let kind = *kind;
+        says(
+            &rt,
+            rt.alloc(),
+            SourceFault::Lex { kind, line, column },
+            want,
+        )?;
+    }
+    for (kind, want) in &SYNTAX_KINDS {
+        let kind = *kind;
+        says(
+            &rt,
+            rt.alloc(),
+            SourceFault::Syntax { kind, line, column },
+            want,
+        )?;
+    }
+    for (kind, want) in &TYPE_KINDS {
+        let kind = *kind;
+        says(
+            &rt,
+            rt.alloc(),
+            SourceFault::Typing { kind, line, column },
+            want,
+        )?;
+    }
+    Ok(())
+}
+
+const SAMPLES: [(SampleRun, &str); 4] = [
+    (
+        SampleRun {
+            number: 1,
+            source: 136,
+            count: 1,
+            sum: 51,
+            ending: Ending::Ended(0),
+        },
+        "sample 1: 136 bytes of source, 1 bytes of output, sum 51, Ended 0\n",
+    ),
+    (
+        SampleRun {
+            number: 3,
+            source: 336,
+            count: 3,
+            sum: 150,
+            ending: Ending::Ended(0),
+        },
+        "sample 3: 336 bytes of source, 3 bytes of output, sum 150, Ended 0\n",
+    ),
+    (
+        SampleRun {
+            number: 1000,
+            source: 105706,
+            count: 0,
+            sum: 65535,
+            ending: Ending::Steps,
+        },
+        "sample 1000: 105706 bytes of source, 0 bytes of output, sum 65535, Steps\n",
+    ),
+    (
+        SampleRun {
+            number: u32::MAX,
+            source: usize::MAX,
+            count: u64::MAX,
+            sum: u64::MAX,
+            ending: Ending::Ended(-1),
+        },
+        "sample 4294967295: 18446744073709551615 bytes of source, 18446744073709551615 bytes of output, sum 18446744073709551615, Ended -1\n",
+    ),
+];
+
+#[test]
+fn sample_lines(rt: HostRuntime) -> Result<(), Fail> {
+    for (run, want) in &SAMPLES {
+        let text = sample_line(rt.alloc(), run)?;
         assert_eq!(rt; text.bytes(), want.as_bytes(), "{want}");
     }
     Ok(())
@@ -128,8 +247,12 @@ fn fixed_lines(rt: HostRuntime) {
     assert_eq!(rt; lines, FIXED);
 }
 
-const IMAGES: [(Part, u64, &str); 3] = [
+const IMAGES: [(Part, u64, &str); 7] = [
     (Part::Bytes, 167, "oblivious: BadImage Bytes 167\n"),
+    (Part::Static, 262_144, "oblivious: BadImage Static 262144\n"),
+    (Part::Pointer, 1, "oblivious: BadImage Pointer 1\n"),
+    (Part::Function, 0, "oblivious: BadImage Function 0\n"),
+    (Part::Code, 3, "oblivious: BadImage Code 3\n"),
     (Part::Main, 0, "oblivious: BadImage Main 0\n"),
     (
         Part::Names,

@@ -17,7 +17,8 @@ pub enum VerdictLine {
     Dropped(u32),
 }
 
-fn put_verdict(text: &mut Text, v: VerdictLine) -> Result<(), NoMemory>
+/// Puts the line of a verdict at the end; nothing for a failed device and for want of memory.
+pub(crate) fn put_verdict(text: &mut Text, v: VerdictLine) -> Result<(), NoMemory>
     ensures { OnOk result (text.new ≡ text.old ++ verdict_line v) }
 {
     match v {
