@@ -15,6 +15,11 @@ pub trait Maker: Drop {
         ensures place { place self.new ≡ place_after (cycle self.old) (place self.old) }
         ensures cycle { cycle self.new ≡ cycle self.old };
 
+    /// Does nothing; its clause is the law below, for callers that hold a maker in a box.
+    fn stands(&self)
+        ensures { place self.now < length (cycle self.now) }
+    {}
+
     /// Goes back to the first number.
     fn restart(&mut self)
         ensures place { place self.new ≡ 0 }

@@ -7,3 +7,4 @@ mod Sound
 mod Before
 mod Read
 mod Makers
+mod Ranges

@@ -29,13 +29,13 @@ dashes_past : (xs : List (List ℕ)) (d x : List ℕ) → get_or (xs ++ d ∷ x 
 dashes_past [] d x = refl
 dashes_past (w ∷ xs) d x = ap (λ k. get_or (w ∷ (xs ++ d ∷ x ∷ [])) k []) {x = suc (length xs) + 1} {y = suc (length xs + 1)} (omega arith) ∙ dashes_past xs d x
 
-argument_at : (line : Line) → get_or (line_words line) (line_place line) [] ≡ line_argument line
+pub argument_at : (line : Line) → get_or (line_words line) (line_place line) [] ≡ line_argument line
 argument_at (around verb before argument after closing) =
     one_past (verb_name verb) (flat_map words_of before ++ argument ∷ (flat_map words_of after ++ closing_words closing)) (length (flat_map words_of before)) ∙ get_past (flat_map words_of before) argument (flat_map words_of after ++ closing_words closing)
 argument_at (behind verb before argument) =
     one_past (verb_name verb) (flat_map words_of before ++ two_dashes ∷ argument ∷ []) (length (flat_map words_of before) + 1) ∙ dashes_past (flat_map words_of before) two_dashes argument
 
-place_within : (line : Line) → line_place line < length (line_words line)
+pub place_within : (line : Line) → line_place line < length (line_words line)
 place_within (around verb before argument after closing) =
     let e = length-append (flat_map words_of before) (argument ∷ (flat_map words_of after ++ closing_words closing)) in omega (arith, e)
 place_within (behind verb before argument) =

@@ -1,12 +1,13 @@
 -- The job of a line.
-use Rattle.std.specs.Prelude.{◌≡◌, ◌==◌, ◌||◌, not, nat_lt, if◌then◌else◌, ℕ, Bool, true, List, Option, Some, unwrap_or}
+use Rattle.std.specs.Prelude.{◌≡◌, ◌==◌, ◌||◌, ◌<◌, ◌≤◌, not, nat_lt, if◌then◌else◌, ℕ, Bool, true, List, [], length, Option, Some, slice_index_or, unwrap_or}
 use Rattle.ob_model.specs.declared.settings.Mode.TheVariants.{Oblivious}
 use Rattle.ob_model.specs.declared.settings.Profile.{Profile}
 use Rattle.ob_model.specs.declared.settings.Profile.TheVariants as profile
 use Rattle.ob_model.specs.declared.settings.RunSettings.{RunSettings}
+use Rattle.ob_model.specs.Settings.{IsFit}
 use Rattle.ob_settings.specs.Lines.{Line, has_plain_argument, line_argument, line_choices, line_place, line_verb, line_words}
 use Rattle.ob_settings.specs.Numbers.{number_between}
-use Rattle.ob_settings.specs.Options.{has}
+use Rattle.ob_settings.specs.Options.{has, most_steps}
 use Rattle.ob_settings.specs.declared.option.Setting.TheVariants as setting
 use Rattle.ob_settings.specs.declared.choices.Choices.{Choices}
 use Rattle.ob_settings.specs.declared.job.Job.{Job}
@@ -80,3 +81,15 @@ ThreeAreEnough = (words : List (List ℕ)) (job : Job) → IsJobOf words job →
 -- no line with a job is spelled so
 abbrev pub IsUsage : List (List ℕ) → Type 0
 IsUsage words = (job : Job) → IsJobOf words job → ⊥
+
+-- some line with a job is spelled so
+abbrev pub AsksForJob : List (List ℕ) → Type 0
+AsksForJob words = (job : Job) × IsJobOf words job
+
+-- each job's numbers lie in the ranges of the table
+abbrev pub JobsAreFit : Type 0
+JobsAreFit = (words : List (List ℕ)) (job : Job) → IsJobOf words job → IsFit job.settings × (job.steps ≤ most_steps)
+
+-- each job's argument is the word at its place
+abbrev pub ArgumentsStandThere : Type 0
+ArgumentsStandThere = (words : List (List ℕ)) (job : Job) → IsJobOf words job → (job.at < length words) × (slice_index_or words job.at [] ≡ job.argument)

@@ -6,13 +6,13 @@
 //! Which words ask for which job is said by the definitions under `specs/`: how numbers are spelled
 //! (`Numbers`), the table of options (`Options`), what lines there are (`Lines`) and what they ask for
 //! (`Jobs`) are to be believed; `Reading` serves the proof. Words ask for one job at most
-//! (`law_one_job`), and whether the makers that were handed in have the one that it takes is a test of
+//! (`law_one_job`), whose numbers are in range (`law_jobs`), and whether the makers that were handed in have the one that it takes is a test of
 //! its own (`Job::has_maker`). Stands on `ob_model` for the settings of a run, and on
 //! `ob_base` for bytes.
 #![tactic(auto)]
 
 pub use job::{Job, WordsFault};
-pub use laws::law_one_job;
+pub use laws::{law_jobs, law_one_job};
 pub use reader::read_words;
 pub use verb::Verb;
 

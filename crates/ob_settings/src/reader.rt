@@ -1,5 +1,5 @@
-ghost use Rattle.std.specs.Prelude.{◌≡◌, ◌<◌, ◌^◌, map, string_bytes, ℕ, None, Err, IfOk, IsSomeAnd};
-ghost use Rattle.ob_settings.specs.Jobs.{IsJobOf, IsUsage, job_of, number_of};
+ghost use Rattle.std.specs.Prelude.{◌≡◌, ◌<◌, ◌^◌, map, string_bytes, ℕ, None, Err, IfOk, IsSome, IsSomeAnd};
+ghost use Rattle.ob_settings.specs.Jobs.{AsksForJob, IsJobOf, IsUsage, job_of, number_of};
 ghost use Rattle.ob_settings.specs.Lines.{is_plain};
 ghost use Rattle.std.specs.Option.{option_map};
 ghost use Rattle.ob_settings.specs.Reading.{after_end, choosing, flag_or_waits, nothing_read, option_kind, reads, setting_named, split_word, step, step_by, taking_one, taking_two, with_argument};
@@ -187,6 +187,7 @@ fn job_at(
 ) -> Result<Job, WordsFault>
     ensures job { IfOk result (λ job. IsSomeAnd (number_of verb argument.now) (λ number. job ≡ job_of verb argument.now at number choices)) }
     ensures usage { result ≡ Err fault.Usage → number_of verb argument.now ≡ None }
+    ensures memory { result ≡ Err fault.NoMemory → IsSome (number_of verb argument.now) }
 {
     let Some(number) = number_of(verb, argument) else {
         return Err(WordsFault::Usage);
@@ -210,7 +211,7 @@ fn job_at(
 
 /// The job that the words of a command line, those behind the program's name, ask for: a command, one
 /// argument, and options of the command, each at most once. `Usage` comes exactly where they are no such
-/// line; `NoMemory` where there is too little memory for the argument's bytes.
+/// line; `NoMemory` where they are one, and there is too little memory for the argument's bytes.
 ///
 /// A word that begins with `-` is an option before the word `--`, unless it is `-` alone. A number is 1 to
 /// 10 decimal digits. The word that comes after an option's name without `=` is its value, whatever it
@@ -218,6 +219,7 @@ fn job_at(
 pub fn read_words(alloc: Global, words: &Vec<String>) -> Result<Job, WordsFault>
     ensures job { IfOk result (λ job. IsJobOf (map string_bytes words.now.items) job) }
     ensures usage { result ≡ Err fault.Usage → IsUsage (map string_bytes words.now.items) }
+    ensures memory { result ≡ Err fault.NoMemory → AsksForJob (map string_bytes words.now.items) }
 {
     let [command, others @ ..] = words.as_slice() else {
         return Err(WordsFault::Usage);
