@@ -1,0 +1,3 @@
+pub mod Pointees
+pub mod Reaches
+pub mod Shifts
