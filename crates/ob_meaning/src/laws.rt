@@ -2,7 +2,7 @@ ghost use Rattle.ob_meaning.specs.World.{vanish, kept, unlimited};
 ghost use Rattle.ob_meaning.specs.ExampleRuns.{GranulesBefore, UnsetByteIsMade, PointerIsKeptOutside, OverrunReads, StrayStoreVanishes, StrayStoreIsKept, NeighbourIsUntouched, NumberAtNull, IllAlignedVanishes, LastGranule, PointerIsLost, DropChangesAnswer, UnlimitedEndsAtDrop, FirstDropIsTold, RecentUseKeeps, PointerComesBack, PointersAreEqualByObject, PointersAreCounted, OffsetsAreBounded, FreedPlaceIsTaken, HeapIsFull, UseAfterFreeEnds, OtherFreesAreTold, DivisionByZeroEnds, StepsRunOut, StackIsBounded, InputEnds};
 ghost use Rattle.ob_meaning.specs.ValueTypes.{CallsHaveTypes, RunsBeginTyped, ValuesHaveTypes};
 ghost use Rattle.ob_meaning.specs.TypeLaws.{ScalarsAreCounted};
-ghost use Rattle.ob_meaning.specs.TypedPrograms.{TypedProgramsGiveValues};
+ghost use Rattle.ob_meaning.specs.TypedPrograms.{RulesGiveValues, TypedProgramsGiveValues};
 ghost use Rattle.ob_meaning.specs.MemoryLaws.{LoadsInsideTakeNone, RunsKeepObjectsWhole, RunsKeepOutsidesWhole, OtherGranulesStay, OtherOutsidesStay, OthersStayUndropped, SizesAndLivesStay, AllElseStays, StoredIsLoaded, StoredOutsideIsLoaded, StrayStoresVanish, StrayLoadsTakeOne, UnsetByteTakesOne, SetBytesTakeNone, NamedAreDead, GranulesOfTheDeadLeave, GranulesOfTheDeadDoNotCount, FreedStaysKnown, GranulesOfTheFreedLeave, OthersStayAsTheyAre, FirstByteIsFreed, FreedAgainIsTold, FreedStoresVanish, FreedLoadsTakeOne, KnownAreMoved, KnownAreCompared, KnownAreSubtracted};
 ghost use Rattle.ob_meaning.specs.RunEnds.{RunsEndByThemselves};
 ghost use Rattle.ob_meaning.specs.Lives.{NoneIsFreed, AutomaticsAloneDie, LiveObjectsAloneCount};
@@ -254,9 +254,9 @@ pub fn law_scalars()
 
 /// In a typed program an expression of an integer type gives a number of that type, and one of a pointer
 /// type gives null or a pointer; so do calls. A run begins in a world of which this holds, on any input. A program is
-/// typed where its expressions keep the rules of typing, and its arguments, initialisers and returned values have the
-/// types of what they are for.
+/// typed in this sense where its functions keep the rules of typing, and the typed tree of each program does.
 pub fn law_values()
+    ensures rules { RulesGiveValues }
     ensures programs { TypedProgramsGiveValues }
     ensures expressions { ValuesHaveTypes }
     ensures calls { CallsHaveTypes }

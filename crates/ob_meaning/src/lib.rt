@@ -15,7 +15,7 @@
 //!
 //! Stands on ob_words and ob_model for numbers, cells, the lives of objects, the heap's places and the bounded
 //! list, and on ob_tree and ob_typed for types, sizes and typed trees. Its proofs cite the lemmas of ob_words
-//! on conversions and fields, and those of ob_model on stray accesses and cells.
+//! on conversions and fields, those of ob_model on stray accesses and cells, and that of ob_typed on typed trees.
 #![tactic(auto)]
 
 pub use laws::{

@@ -34,3 +34,4 @@ pub mod SampledTrees
 pub mod MoreSampledTrees
 pub mod LastSampledTrees
 pub mod WellTyped
+pub mod TypedLaws

@@ -1,12 +1,13 @@
--- Typed expressions by themselves: each node has the type that the rules of C99 6.5 give it for its parts, and
+-- Typed trees by themselves: each node of an expression has the type that the rules of C99 6.5 give it for its parts, and
 -- each constant is a number of its type. A conversion between two pointer types changes the type of a node alone
 -- (6.3.2.3), so where a node has the type of a part, both may be pointers that differ.
-use Rattle.std.specs.Prelude.{◌≡◌, ◌≤◌, ℕ, ℤ, Bool, true, false, IsTrue, if◌then◌else◌, Option, Some, None, List, [], ◌∷◌, slice_get, take}
+use Rattle.std.specs.Prelude.{◌≡◌, ◌≤◌, ℕ, ◌+◌, ℤ, Bool, true, false, IsTrue, if◌then◌else◌, Option, Some, None, List, [], ◌∷◌, length, slice_get, take}
 use Rattle.ob_words.specs.declared.types.IntType.{IntType}
 use Rattle.ob_words.specs.declared.types.IntType.TheVariants.{Int, Long}
 use Rattle.ob_words.specs.declared.types.BinOp.{BinOp}
 use Rattle.ob_words.specs.Types.{IsNumber, common, promote}
 use Rattle.ob_words.specs.Operators.{shifts}
+use Rattle.ob_tree.specs.Parts.{Part, part}
 use Rattle.ob_tree.specs.Sizes.{most_bytes, size}
 use Rattle.ob_tree.specs.Types.{PlainType, PlainStructs}
 use Rattle.ob_tree.specs.Types.{PlainType as type}
@@ -15,6 +16,8 @@ use Rattle.ob_typed.specs.TypedTree.{TypedExpr, TypedExprs, TypedPlace, TypedLea
 use Rattle.ob_typed.specs.TypedTree.{TypedExpr as expr, TypedExprs as exprs, TypedPlace as place, TypedLean as lean, TypedNode as node, TypedInit as init, TypedInits as inits, TypedStmt as stmt, TypedStmts as stmts}
 use Rattle.ob_typed.specs.Conversions.{value_type}
 use Rattle.ob_typed.specs.BinaryRules.{computed_in}
+use Rattle.ob_typed.specs.Initialisers.{fits_length}
+use Rattle.ob_typed.specs.TypeTests.{is_char}
 use Rattle.ob_typed.specs.PostfixRules.{builtin_params, builtin_result}
 
 -- the structures and the functions that expressions speak of by their numbers
@@ -147,46 +150,90 @@ abbrev mutual
   AreTyped c (exprs.Argument e es) [] = ⊥
   AreTyped c (exprs.Argument e es) (t ∷ ts) = (value_type e ≡ t) × IsWellTyped c e × AreTyped c es ts
 
--- ---- every expression of a program
+-- ---- initialisers (6.7.8)
 
+-- an array of characters, which a string of so many bytes fits
+abbrev pub HoldsString : PlainType → (count : ℕ) → Type 0
+HoldsString (type.Array (type.Int k) n) count = IsTrue (is_char k) × IsTrue (fits_length n count)
+HoldsString _ count = ⊥
+
+abbrev pub IsStruct : PlainType → Type 0
+IsStruct (type.Struct n) = Unit {0}
+IsStruct _ = ⊥
+
+-- A value has the type of the number or pointer that it is for, an item that of its element or member, and a
+-- structure is copied from a place of its type.
 abbrev mutual
-  pub IsTypedInit : Around → TypedInit → Type 0
-  IsTypedInit c (init.Value e) = IsWellTyped c e
-  IsTypedInit c (init.Chars bytes) = Unit {0}
-  IsTypedInit c (init.Items is) = AreTypedItems c is
-  IsTypedInit c (init.Copy p) = IsTypedPlace c p
+  pub IsTypedInit : Around → PlainType → TypedInit → Type 0
+  IsTypedInit c t (init.Value e) = IsScalar t × (value_type e ≡ t) × IsWellTyped c e
+  IsTypedInit c t (init.Chars bytes) = HoldsString t (length bytes)
+  IsTypedInit c t (init.Items is) = AreTypedItems c t 0 is
+  IsTypedInit c t (init.Copy p) = IsStruct t × (place_type p ≡ t) × IsTypedPlace c p
 
-  pub AreTypedItems : Around → TypedInits → Type 0
-  AreTypedItems c inits.NoItems = Unit {0}
-  AreTypedItems c (inits.Item i is) = IsTypedInit c i × AreTypedItems c is
+  -- the items from part i on
+  pub AreTypedItems : Around → PlainType → (i : ℕ) → TypedInits → Type 0
+  AreTypedItems c t i inits.NoItems = Unit {0}
+  AreTypedItems c t i (inits.Item x xs) =
+      ((p : Part) × (part c.structs t i ≡ Some p) × IsTypedInit c p.ty x) × AreTypedItems c t (i + 1) xs
+
+-- ---- statements (6.8) of a function whose result and whose automatic objects have these types
 
 abbrev pub IsTypedOption : Around → Option TypedExpr → Type 0
 IsTypedOption c None = Unit {0}
 IsTypedOption c (Some e) = IsWellTyped c e
 
-abbrev mutual
-  pub IsTypedStmt : Around → TypedStmt → Type 0
-  IsTypedStmt c stmt.Empty = Unit {0}
-  IsTypedStmt c (stmt.Expr e) = IsWellTyped c e
-  IsTypedStmt c (stmt.Block ss) = AreTypedStmts c ss
-  IsTypedStmt c (stmt.Init n i) = IsTypedInit c i
-  IsTypedStmt c (stmt.If e s) = IsWellTyped c e × IsTypedStmt c s
-  IsTypedStmt c (stmt.IfElse e s other) = IsWellTyped c e × IsTypedStmt c s × IsTypedStmt c other
-  IsTypedStmt c (stmt.While e s) = IsWellTyped c e × IsTypedStmt c s
-  IsTypedStmt c (stmt.Do s e) = IsTypedStmt c s × IsWellTyped c e
-  IsTypedStmt c (stmt.For ss test next s) = AreTypedStmts c ss × IsTypedOption c test × IsTypedOption c next × IsTypedStmt c s
-  IsTypedStmt c stmt.Break = Unit {0}
-  IsTypedStmt c stmt.Continue = Unit {0}
-  IsTypedStmt c (stmt.Return e) = IsTypedOption c e
+-- a controlling expression is a number or a pointer (6.8.4, 6.8.5)
+abbrev pub IsTypedTest : Around → TypedExpr → Type 0
+IsTypedTest c e = IsScalar (value_type e) × IsWellTyped c e
 
-  pub AreTypedStmts : Around → TypedStmts → Type 0
-  AreTypedStmts c stmts.NoStmts = Unit {0}
-  AreTypedStmts c (stmts.Stmt s ss) = IsTypedStmt c s × AreTypedStmts c ss
+abbrev pub IsTypedTestOption : Around → Option TypedExpr → Type 0
+IsTypedTestOption c None = Unit {0}
+IsTypedTestOption c (Some e) = IsTypedTest c e
+
+-- a function gives a value of its type, or none where its type is `void` (6.8.6.4)
+abbrev pub IsTypedReturn : Around → (result : PlainType) → Option TypedExpr → Type 0
+IsTypedReturn c result None = result ≡ type.Void
+IsTypedReturn c result (Some e) = IsScalar result × (value_type e ≡ result) × IsWellTyped c e
+
+abbrev mutual
+  pub IsTypedStmt : Around → (result : PlainType) → (locals : List PlainType) → TypedStmt → Type 0
+  IsTypedStmt c result locals stmt.Empty = Unit {0}
+  IsTypedStmt c result locals (stmt.Expr e) = IsWellTyped c e
+  IsTypedStmt c result locals (stmt.Block ss) = AreTypedStmts c result locals ss
+  IsTypedStmt c result locals (stmt.Init n i) = (t : PlainType) × (slice_get locals n ≡ Some t) × IsTypedInit c t i
+  IsTypedStmt c result locals (stmt.If e s) = IsTypedTest c e × IsTypedStmt c result locals s
+  IsTypedStmt c result locals (stmt.IfElse e s other) =
+      IsTypedTest c e × IsTypedStmt c result locals s × IsTypedStmt c result locals other
+  IsTypedStmt c result locals (stmt.While e s) = IsTypedTest c e × IsTypedStmt c result locals s
+  IsTypedStmt c result locals (stmt.Do s e) = IsTypedStmt c result locals s × IsTypedTest c e
+  IsTypedStmt c result locals (stmt.For ss test next s) =
+      AreTypedStmts c result locals ss × IsTypedTestOption c test × IsTypedOption c next × IsTypedStmt c result locals s
+  IsTypedStmt c result locals stmt.Break = Unit {0}
+  IsTypedStmt c result locals stmt.Continue = Unit {0}
+  IsTypedStmt c result locals (stmt.Return e) = IsTypedReturn c result e
+
+  pub AreTypedStmts : Around → (result : PlainType) → (locals : List PlainType) → TypedStmts → Type 0
+  AreTypedStmts c result locals stmts.NoStmts = Unit {0}
+  AreTypedStmts c result locals (stmts.Stmt s ss) = IsTypedStmt c result locals s × AreTypedStmts c result locals ss
+
+-- ---- functions (6.9.1)
+
+-- a parameter is a number or a pointer (6.7.5.3)
+abbrev pub AreScalars : List PlainType → Type 0
+AreScalars [] = Unit {0}
+AreScalars (t ∷ ts) = IsScalar t × AreScalars ts
+
+abbrev pub IsTypedFunction : Around → TypedFunction → Type 0
+IsTypedFunction c f = AreScalars (take f.params f.locals) × IsTypedStmt c f.result f.locals f.body
 
 abbrev pub AreTypedFunctions : Around → List TypedFunction → Type 0
 AreTypedFunctions c [] = Unit {0}
-AreTypedFunctions c (f ∷ fs) = IsTypedStmt c f.body × AreTypedFunctions c fs
+AreTypedFunctions c (f ∷ fs) = IsTypedFunction c f × AreTypedFunctions c fs
 
--- the expressions of a program's functions are well typed; initialisers of static objects are bytes and pointers
-abbrev pub HasTypedExpressions : TypedProgram → Type 0
-HasTypedExpressions t = AreTypedFunctions (record { structs = t.structs; functions = t.functions }) t.functions
+abbrev pub around_of : TypedProgram → Around
+around_of t = record { structs = t.structs; functions = t.functions }
+
+-- The functions of a program are well typed, with every expression in them. Initialisers of static objects are bytes
+-- and pointers, and no expressions.
+abbrev pub HasTypedFunctions : TypedProgram → Type 0
+HasTypedFunctions t = AreTypedFunctions (around_of t) t.functions

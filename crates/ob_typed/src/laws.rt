@@ -11,8 +11,8 @@ ghost use Rattle.ob_typed.specs.RuleExamples.{own_addresses, own_end, past_own_e
 ghost use Rattle.ob_typed.specs.SampledTrees.{program_one, typed_one, program_two, typed_two, program_three, typed_three, program_four, typed_four, program_five, typed_five, program_six, typed_six, program_seven, typed_seven, program_eight, typed_eight};
 ghost use Rattle.ob_typed.specs.MoreSampledTrees.{program_nine, typed_nine, program_ten, typed_ten, program_eleven, typed_eleven, program_twelve, typed_twelve, program_thirteen, typed_thirteen, program_fourteen, typed_fourteen, program_fifteen, typed_fifteen, program_sixteen, typed_sixteen};
 ghost use Rattle.ob_typed.specs.LastSampledTrees.{program_seventeen, typed_seventeen, program_eighteen, typed_eighteen, program_nineteen, typed_nineteen, program_twenty, typed_twenty, program_twenty_one, typed_twenty_one, program_twenty_two, typed_twenty_two, program_twenty_three, typed_twenty_three};
+ghost use Rattle.ob_typed.specs.TypedLaws.{TypedTreesAreWellTyped};
 ghost use Rattle.ob_typed.specs.Typing.{FirstTypeFault, Types};
-ghost use Rattle.ob_typed.specs.WellTyped.{HasTypedExpressions};
 
 /// The first faults of thirty-two programs, of each kind at least one, with the place of a token: what each
 /// program is stands beside it.
@@ -82,18 +82,6 @@ pub fn law_builtin_calls()
     ensures exit { Types exit_call typed_exit_call }
 {}
 
-/// Every expression of these programs is well typed: among them are pointers that are converted, calls, steps,
-/// compound assignments and conditionals.
-pub fn law_well_typed_examples()
-    ensures freed_pointer { HasTypedExpressions typed_freed_pointer }
-    ensures exit_call { HasTypedExpressions typed_exit_call }
-    ensures recursion { HasTypedExpressions typed_recursion }
-    ensures elements { HasTypedExpressions typed_elements }
-    ensures strings { HasTypedExpressions typed_strings }
-    ensures lines { HasTypedExpressions typed_lines }
-    ensures conversions { HasTypedExpressions typed_conversions }
-{}
-
 /// The typed trees of programs made at random, as another implementation of the rules gave them.
 pub fn law_sampled_trees()
     ensures one { Types program_one typed_one }
@@ -127,4 +115,10 @@ pub fn law_last_sampled_trees()
     ensures twenty_one { Types program_twenty_one typed_twenty_one }
     ensures twenty_two { Types program_twenty_two typed_twenty_two }
     ensures twenty_three { Types program_twenty_three typed_twenty_three }
+{}
+
+/// Every part of the typed tree of a program is well typed: each expression has the type that the rules give it for
+/// its parts, and each initialiser, returned value and controlling expression fits what it is for.
+pub fn law_well_typed()
+    ensures { TypedTreesAreWellTyped }
 {}

@@ -7,7 +7,9 @@
 //! (`PostfixRules`, `UnaryRules`, `BinaryRules`, `AssignRules`, `Conversions`, `Specifiers`, `Strings`);
 //! `Scopes`, `TypeTests`, `Completeness`, `ConstantValues`, `AddressConstants`, `Images`, `Places`,
 //! `Marks`, `Counts` and `Faults`; `TypedTree`, with `TypedView` and `ProgramView`, which read the values
-//! of the code as such trees. `WellTyped` and the examples are what the laws speak of.
+//! of the code as such trees. `WellTyped`, `TypedLaws` and the examples are what the laws speak of.
+//!
+//! `law_well_typed` says of every program that its typed tree keeps the rules by themselves, as `WellTyped` has them.
 #![tactic(auto)]
 
 pub use expressions::{TExpr, TLean, TNode, TPlace};

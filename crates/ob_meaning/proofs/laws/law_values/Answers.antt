@@ -1,6 +1,9 @@
 use Rattle.ob_meaning.proofs.TypedCalls.{calls_have_types, runs_begin_typed, values_have_types}
-use Rattle.ob_meaning.proofs.TypedPrograms.{typed_programs_give_values}
+use Rattle.ob_meaning.proofs.TypedPrograms.{rules_give_values, typed_programs_give_values}
 use Rattle.ob_meaning.proofs.laws.law_values.Goals as goal
+
+pub returns-clause-rules : goal.returns-clause-rules
+returns-clause-rules c = rules_give_values
 
 pub returns-clause-programs : goal.returns-clause-programs
 returns-clause-programs c = typed_programs_give_values
