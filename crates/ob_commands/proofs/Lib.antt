@@ -1,0 +1,10 @@
+mod Residue
+pub mod Quiet
+pub mod Coming
+pub mod Delivering
+pub mod Caused
+mod Numbers
+pub mod Rows
+pub mod Determined
+pub mod Makers
+mod Texts

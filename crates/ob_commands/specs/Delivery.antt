@@ -1,0 +1,133 @@
+-- How far the program has come with a job before the error sink is told of it, and how a line is told. These serve the proof.
+use Rattle.std.specs.Prelude.{◌≡◌, ℕ, ◌<◌, ◌≤◌, ◌⊎◌, ◌++◌, Bool, List, [], length, ⊤}
+use Rattle.ob_base.specs.Devices.{Loading, Reading, Writing, IsSound, IsUnavailable, IsUnread, IsUnwritten, IsWritten, IsCutOff}
+use Rattle.ob_model.specs.declared.endings.Ending.{Ending}
+use Rattle.ob_model.specs.declared.endings.Ending.TheVariants as ending
+use Rattle.ob_code.specs.declared.faults.BadImage.{BadImage}
+use Rattle.ob_code.specs.declared.image.Image.{Image}
+use Rattle.ob_report.specs.Lines.{ending_line}
+use Rattle.ob_settings.specs.declared.job.Job.{Job}
+use Rattle.ob_settings.specs.declared.verb.Verb.{Verb}
+use Rattle.ob_settings.specs.declared.verb.Verb.TheVariants as verb
+use Rattle.ob_watch.specs.Watching.{Watch}
+use Rattle.ob_commands.specs.declared.answer.Answer.{Answer}
+use Rattle.ob_commands.specs.declared.answer.Answer.TheVariants.{Done, Usage, FileFault, FileLong, Refused, Bad, Ran, NotYet}
+use Rattle.ob_commands.specs.declared.came.Came.{Came}
+use Rattle.ob_commands.specs.declared.came.Came.TheVariants.{Due, Cut, Starved}
+use Rattle.ob_commands.specs.declared.line.Line.{Line}
+use Rattle.ob_commands.specs.declared.line.Line.TheVariants.{Fixed, Made}
+use Rattle.ob_commands.specs.Answers.{Outcome, TakesMemory, line_of, report_of, status_of}
+use Rattle.ob_commands.specs.Parts.{Asked, Supply, IsBadImage, IsLong}
+
+-- ---- what is due to the error sink
+
+-- an answer's line, and behind that of a run the report, where one was asked for
+abbrev pub err_of : (name : List ℕ) → (report : Bool) → List Watch → Answer → List ℕ
+err_of name report ws (Ran e) = ending_line e ++ report_of report ws
+err_of name report ws Done = []
+err_of name report ws Usage = line_of name Usage
+err_of name report ws FileFault = line_of name FileFault
+err_of name report ws FileLong = line_of name FileLong
+err_of name report ws (Refused fault) = line_of name (Refused fault)
+err_of name report ws (Bad bad) = line_of name (Bad bad)
+err_of name report ws NotYet = line_of name NotYet
+
+abbrev pub err_due : Asked → Answer → List ℕ
+err_due a answer = err_of a.job.argument a.job.report a.watchers answer
+
+abbrev pub bytes_of : Line → List ℕ
+bytes_of (Fixed text) = text.now
+bytes_of (Made text) = text
+
+-- a line was told with a status, or the sink failed
+pub data Told (line : List ℕ) (due : ℕ) (err : Writing) (status : ℕ) : Type 0 where
+  all : (told : IsWritten err line) (status_is : status ≡ due) → Told line due err status
+  cut : (cut : IsCutOff err line) (status_is : status ≡ 143) → Told line due err status
+
+-- ---- how far it has come
+
+-- an outcome, of which the output sink has taken all that is due to it
+pub record IsDue (a : Asked) (P : Outcome → Type 0) (answer : Answer) (n : ℕ) (out : Writing) : Type 0 where
+  pub outcome : Outcome
+  pub comes : P outcome
+  pub answer_is : outcome.answer ≡ answer
+  pub err_is : outcome.err ≡ err_due a answer
+  pub count : n ≡ outcome.instructions
+  pub all_out : IsWritten out outcome.out
+
+-- an outcome at which the output sink failed
+pub record IsCut (P : Outcome → Type 0) (n : ℕ) (out : Writing) : Type 0 where
+  pub outcome : Outcome
+  pub comes : P outcome
+  pub cut : IsCutOff out outcome.out
+  pub count : n ≤ outcome.instructions
+
+abbrev pub CameTo : Asked → (Outcome → Type 0) → (idle : Type 0) → Came → Writing → Type 0
+CameTo a P idle (Due answer n) out = IsDue a P answer n out
+CameTo a P idle (Cut n) out = IsCut P n out
+CameTo a P idle Starved out = idle × IsUnwritten out
+
+-- the same for a job with each maker of which P holds, and with any watchers
+abbrev pub ask_for : Job → Supply → List Watch → Asked
+ask_for job supply watchers = record { job = job; supply = supply; watchers = watchers }
+
+abbrev pub CameFor : Job → (Supply → Type 0) → (Asked → Outcome → Type 0) → (idle : Type 0) → Came → Writing → Type 0
+CameFor job P Q idle came out =
+    (supply : Supply) (watchers : List Watch) → P supply → CameTo (ask_for job supply watchers) (Q (ask_for job supply watchers)) idle came out
+
+-- a maker's place is one of its cycle; a command without a maker takes any
+abbrev pub Stands : Supply → Type 0
+Stands supply = supply.place < length supply.cycle
+
+abbrev pub IsAny : Supply → Type 0
+IsAny supply = ⊤
+
+abbrev pub TakesMaker : Verb → Type 0
+TakesMaker verb.Run = ⊤
+TakesMaker verb.Exec = ⊤
+TakesMaker verb.Audit = ⊤
+TakesMaker verb.Sample = ⊤
+TakesMaker verb.Compile = ⊥
+TakesMaker verb.Check = ⊥
+TakesMaker verb.Migrate = ⊥
+
+abbrev pub StandsFor : Verb → Supply → Type 0
+StandsFor v supply = TakesMaker v → Stands supply
+
+-- ---- its parts
+
+-- where a run came to, by its ending
+abbrev pub came_of : Ending → ℕ → Came
+came_of ending.WriteFault n = Cut n
+came_of e n = Due (Ran e) n
+
+-- why a file wasn't loaded
+abbrev pub IsNoFile : Loading → (name : List ℕ) → (most : ℕ) → Came → Type 0
+IsNoFile l name most (Due FileFault n) = IsUnavailable l name × (n ≡ 0)
+IsNoFile l name most (Due FileLong n) = IsLong l name most × (n ≡ 0)
+IsNoFile l name most (Due answer n) = ⊥
+IsNoFile l name most (Cut n) = ⊥
+IsNoFile l name most Starved = IsSound l
+
+-- why there is no image to run
+abbrev pub IsNoImage : List ℕ → Came → Type 0
+IsNoImage bytes (Due (Bad bad) n) = IsBadImage bytes bad × (n ≡ 0)
+IsNoImage bytes (Due answer n) = ⊥
+IsNoImage bytes (Cut n) = ⊥
+IsNoImage bytes Starved = ⊤
+
+-- bytes were written to the output sink, or it failed
+abbrev pub IsPut : List ℕ → Came → Writing → Type 0
+IsPut bytes (Due Done n) out = IsWritten out bytes × (n ≡ 0)
+IsPut bytes (Due answer n) out = ⊥
+IsPut bytes (Cut n) out = IsCutOff out bytes × (n ≡ 0)
+IsPut bytes Starved out = ⊥
+
+-- ---- what the error sink is told
+
+-- its line was told, or there was no memory for it
+abbrev pub Delivered : (name : List ℕ) → (report : Bool) → List Watch → Came → (err : Writing) → (status n : ℕ) → Type 0
+Delivered name report ws (Due answer k) err status n =
+    (n ≡ k) × (Told (err_of name report ws answer) (status_of answer) err status ⊎ (TakesMemory report answer × (status ≡ 144) × IsUnwritten err))
+Delivered name report ws (Cut k) err status n = (n ≡ k) × (status ≡ 143) × IsUnwritten err
+Delivered name report ws Starved err status n = (n ≡ 0) × (status ≡ 144) × IsUnwritten err

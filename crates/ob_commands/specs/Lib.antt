@@ -1,0 +1,11 @@
+-- What the program does: a reader begins with Top, which has the one clause, and with the page of a command (Run, Exec, Migrate).
+pub mod Status
+pub mod Answers
+pub mod Parts
+pub mod Run
+pub mod Exec
+pub mod Migrate
+pub mod Top
+pub mod Causes
+pub mod Laws
+pub mod Delivery
