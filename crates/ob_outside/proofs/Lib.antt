@@ -1,0 +1,6 @@
+pub mod Powers
+pub mod Splices
+pub mod Bytes
+pub mod Reading
+pub mod Writing
+pub mod Lists
