@@ -1,8 +1,9 @@
 -- What goes through the buffers: nothing, a byte, and one exchange after another.
-use Rattle.std.proofs.Common.{◌≡◌, ◌≢◌, ℕ, ◌-◌, ◌%◌, ◌^◌, Bool, true, false, List, [], ◌∷◌, ◌++◌, Option, Some, None, Result, Ok, Err, refl, sym, ap, ◌∙◌, subst, append_assoc}
+use Rattle.std.proofs.Common.{◌≡◌, ◌≢◌, ℕ, ◌-◌, ◌%◌, ◌^◌, ◌≤◌, Bool, true, false, List, [], ◌∷◌, ◌++◌, length, Option, Some, None, Result, Ok, Err, refl, sym, ap, ◌∙◌, subst, append_assoc}
 use Rattle.std.specs.Prelude.{MatchBool, MatchOption}
-use Rattle.std.specs.Io.KnownBytes.{prepend_known, IsAtEnd}
+use Rattle.std.specs.Io.KnownBytes.{append_known, prepend_known, IsAtEnd}
 use Rattle.std.proofs.lemmas.List.{append-nil, append_cancel_left}
+use Rattle.ob_base.specs.Sink.{tally_known}
 use Rattle.ob_base.proofs.Appending.{append_known-nil, tally_known-nil}
 use Rattle.ob_model.specs.declared.endings.Ending.{Ending}
 use Rattle.ob_model.specs.declared.endings.Ending.TheVariants.{Steps}
@@ -12,9 +13,9 @@ use Rattle.ob_code.specs.State.{Next, State, goes, stops}
 use Rattle.ob_machine.specs.declared.execution.Execution.{Execution}
 use Rattle.ob_machine.specs.declared.ports.Fault.{Fault}
 use Rattle.ob_machine.specs.declared.ports.Fault.TheVariants.{Read, Write}
-use Rattle.ob_machine.specs.Buffers.{IsUsedUp, Unread}
+use Rattle.ob_machine.specs.Buffers.{IsUsedUp, SentOrPending, Unread}
 use Rattle.ob_machine.specs.Executions.{Beside, Is, state_of, word_of_byte}
-use Rattle.ob_machine.specs.Exchanges.{Advances, Answers, CanFollow, Devices, IsRefilled, KnowsEnd, Moves, Puts, having_written, reading}
+use Rattle.ob_machine.specs.Exchanges.{Advances, Answers, CanFollow, Devices, FailsToGet, IsRefilled, KnowsEnd, Moves, NeedsRead, Puts, having_written, reading}
 use Rattle.ob_machine.proofs.Handed.{ticked_once}
 use Rattle.ob_machine.proofs.Sent.{sent_none}
 
@@ -39,10 +40,30 @@ no_step does k e d is none knows =
       read = [];
       written = [];
       moves = still d knows;
+      needs = λ some. absurd (some refl);
       same = λ input_end more b can.
           is input_end (reading e (d.unread.bytes ++ more) b)
           ∙ ticked_none e.steps (reading e (d.unread.bytes ++ more) b) (k input_end) none
           ∙ ap (stops Steps) (nothing_written e (d.unread.bytes ++ more) b);
+    }
+
+-- some bytes were read, 4,096 at most, when all that was pending had been sent
+pub record IsSentAndRead (d d' : Devices) (read : List ℕ) : Type 0 where
+  pub few : length read ≤ 4096
+  pub sent : SentOrPending (append_known d.taken d.pending) d'.taken (tally_known d.tally d.pending) d'.tally d'.pending []
+
+refilled_sent : (d d' : Devices) → IsRefilled d d' → IsSentAndRead d d' d'.unread.bytes
+refilled_sent d d' r =
+    let s = r.moves.sent in
+    let all : s.sent ≡ d.pending = sym (append-nil s.sent) ∙ ap (λ xs. s.sent ++ xs) (sym r.nothing_pending) ∙ s.rest ∙ append-nil d.pending in
+    record {
+      few = r.few;
+      sent = record {
+        sent = [];
+        took = s.took ∙ ap (append_known d.taken) all ∙ sym (append_known-nil (append_known d.taken d.pending));
+        tallied = s.tallied ∙ ap (tally_known d.tally) all ∙ sym (tally_known-nil (tally_known d.tally d.pending));
+        rest = r.nothing_pending;
+      };
     }
 
 -- the buffer has a byte, or the end was met
@@ -50,6 +71,7 @@ pub record HasNext (d d' : Devices) : Type 0 where
   pub read : List ℕ
   pub moves : Moves d d' read []
   pub joined : d.unread.bytes ++ read ≡ d'.unread.bytes
+  pub refilled : read ≢ [] → IsUsedUp d.unread × IsSentAndRead d d' read
   pub ended : d'.unread.bytes ≡ [] → d'.unread.at_end ≡ true
 
 filled_end : (b : Bool) (bytes : List ℕ) (left : Option (List ℕ)) → MatchBool b ((bytes ≡ []) × IsAtEnd left) (bytes ≢ []) → bytes ≡ [] → b ≡ true
@@ -62,6 +84,7 @@ refilled_next d d' used r =
       read = d'.unread.bytes;
       moves = r.moves;
       joined = ap (λ xs. xs ++ d'.unread.bytes) used.none;
+      refilled = λ some. (used, refilled_sent d d' r);
       ended = filled_end d'.unread.at_end d'.unread.bytes d'.left r.filled;
     }
 
@@ -71,7 +94,7 @@ not_used false bytes h e = absurd (h (record { none = e; more = refl }))
 
 pub still_next : (d : Devices) → KnowsEnd d.unread d.left → ¬ IsUsedUp d.unread → HasNext d d
 still_next d knows h =
-    record { read = []; moves = still d knows; joined = append-nil d.unread.bytes; ended = not_used d.unread.at_end d.unread.bytes h }
+    record { read = []; moves = still d knows; joined = append-nil d.unread.bytes; refilled = λ some. absurd (some refl); ended = not_used d.unread.at_end d.unread.bytes h }
 
 byte_taken : (input_end : InputEnd) (byte : ℕ) (rest : List ℕ) (a : ℕ) (t : State) → get_char input_end (byte ∷ rest) a t ≡ set_word (record t { input = rest }) a (byte % 256)
 byte_taken closed byte rest a t = refl
@@ -100,9 +123,21 @@ got_char does e f d d' v byte a w is some next takes word set =
       read = next.read;
       written = [];
       moves = record { was_left = next.moves.was_left; knows_end = λ h. next.moves.knows_end (sym takes.0 ∙ h); ended = λ h. let m = next.moves.ended h in (m.0, takes.0 ∙ m.1); read_quiet = next.moves.read_quiet; sent = next.moves.sent; write_quiet = next.moves.write_quiet };
+      needs = needs;
       same = same;
     }
   where
+    needs : next.read ≢ [] → NeedsRead does e d (record d' { unread = v }) next.read []
+    needs read =
+        let n = next.refilled read in
+        record {
+          none = n.0.none;
+          more = n.0.more;
+          few = n.1.few;
+          fails = λ b. (reading (stepped e) [] b, is failed (reading e [] b) ∙ ticked_once e.steps (reading e [] b) (λ t. get_char failed t.input a t) some, refl);
+          sent = n.1.sent;
+        }
+
     same : (input_end : InputEnd) (more : List ℕ) (b : Beside) → CanFollow v more input_end → does input_end (reading e (d.unread.bytes ++ (next.read ++ more)) b) ≡ goes (state_of f (having_written (v.bytes ++ more) [] b))
     same input_end more b can =
         let input : d.unread.bytes ++ (next.read ++ more) ≡ d'.unread.bytes ++ more = sym (append_assoc d.unread.bytes next.read more) ∙ ap (λ xs. xs ++ more) next.joined in
@@ -115,12 +150,17 @@ got_char does e f d d' v byte a w is some next takes word set =
         ∙ ap goes (nothing_written f (v.bytes ++ more) b)
 
 -- an instruction that is told by another definition of it
+needs_as : (does told : InputEnd → State → Next) (e : Execution) (d d' : Devices) (read written : List ℕ) → ((input_end : InputEnd) (input : List ℕ) (b : Beside) → told input_end (reading e input b) ≡ does input_end (reading e input b)) → NeedsRead does e d d' read written → NeedsRead told e d d' read written
+needs_as does told e d d' read written told_is n =
+    record { none = n.none; more = n.more; few = n.few; fails = λ b. subst (λ x. FailsToGet x b.output) (sym (told_is failed [] b)) (n.fails b); sent = n.sent }
+
 pub answers_as : (does told : InputEnd → State → Next) (e f : Execution) (d d' : Devices) (answer : Result (Option Ending) Fault) → ((input_end : InputEnd) (input : List ℕ) (b : Beside) → told input_end (reading e input b) ≡ does input_end (reading e input b)) → Answers does e f d d' answer → Answers told e f d d' answer
 answers_as does told e f d d' (Ok answer) told_is a =
     record {
       read = a.read;
       written = a.written;
       moves = a.moves;
+      needs = λ some. needs_as does told e d d' a.read a.written told_is (a.needs some);
       same = λ input_end more b can. subst (λ x. Is answer x f (having_written (d'.unread.bytes ++ more) a.written b)) (sym (told_is input_end (d.unread.bytes ++ (a.read ++ more)) b)) (a.same input_end more b can);
     }
 answers_as does told e f d d' (Err Read) told_is a = record { none = a.none; more = a.more; refill = a.refill; same = λ b. told_is failed [] b ∙ a.same b }
@@ -133,6 +173,7 @@ done_advances does e f d answer knows is =
       read = [];
       written = [];
       moves = still d knows;
+      needs = λ some. absurd (some refl);
       same = λ input_end more b can.
           subst (λ output. Is answer (does input_end (reading e (d.unread.bytes ++ more) b)) f (record b { input = d.unread.bytes ++ more; output = output })) (sym (append-nil b.output))
           (is input_end (record b { input = d.unread.bytes ++ more }));
@@ -151,6 +192,7 @@ put_advances does e f d pending None knows puts =
       read = [];
       written = p.0 ∷ [];
       moves = put_moves d p.0 pending knows p.1;
+      needs = λ some. absurd (some refl);
       same = λ input_end more b can. same input_end more b;
     }
   where

@@ -1,11 +1,11 @@
 -- A run that goes on, instruction by instruction, and where it ends.
-use Rattle.std.proofs.Common.{◌≡◌, ℕ, suc, ◌+◌, ◌≤◌, List, [], ◌++◌, Option, Some, None, slice_get, refl, sym, ap, ◌∙◌, subst, arith, append_assoc}
+use Rattle.std.proofs.Common.{◌≡◌, ◌≢◌, ℕ, suc, ◌+◌, ◌≤◌, ◌⊎◌, false, List, [], ◌++◌, Option, Some, None, slice_get, refl, sym, ap, ◌∙◌, subst, arith, append_assoc, inl, inr}
 use Rattle.std.specs.Io.KnownBytes.{append_known, prepend_known, IsAtEnd}
 use Rattle.std.proofs.lemmas.List.{append-nil}
 use Rattle.ob_base.specs.Faults.{Rose}
 use Rattle.ob_base.specs.Sink.{Tally, TakesPrefix, tally_known}
 use Rattle.ob_model.specs.declared.endings.Ending.{Ending}
-use Rattle.ob_model.specs.declared.endings.Ending.TheVariants.{Spent}
+use Rattle.ob_model.specs.declared.endings.Ending.TheVariants.{ReadFault, Spent}
 use Rattle.ob_model.specs.declared.settings.Profile.TheVariants.{One}
 use Rattle.ob_model.specs.declared.settings.Mode.TheVariants.{Oblivious}
 use Rattle.ob_model.specs.declared.settings.RunSettings.{RunSettings}
@@ -13,14 +13,15 @@ use Rattle.ob_model.specs.Endings.{Begins, InputEnd, closed, failed}
 use Rattle.ob_code.specs.declared.image.Image.{Image}
 use Rattle.ob_code.specs.Machine.{after, counted, runs, step}
 use Rattle.ob_code.specs.Rules.{IsVerified}
-use Rattle.ob_code.specs.State.{Final, State, goes}
+use Rattle.ob_code.specs.State.{Final, State, goes, stops}
 use Rattle.ob_space.specs.Loaded.{Loaded}
 use Rattle.ob_machine.specs.declared.execution.Execution.{Execution}
 use Rattle.ob_machine.specs.Effects.{IsReady}
-use Rattle.ob_machine.specs.Exchanges.{Advances, CanFollow, Devices, FailsToRead, KnowsEnd, Moves, RunEnds, RunFailsToRead, RunFailsToWrite, begun, having_written, reading}
+use Rattle.ob_machine.specs.Exchanges.{Advances, CanFollow, Devices, EndsAtRead, FailsToRead, KnowsEnd, LastRead, Moves, NeedsRead, RunEnds, RunFailsToRead, RunFailsToWrite, begun, having_written, reading}
 use Rattle.ob_machine.specs.Executions.{Beside, SameRows, setup, state_of}
 use Rattle.ob_machine.specs.Buffers.{SentOrPending}
 use Rattle.ob_machine.proofs.Exchanged.{nothing_written, still}
+use Rattle.ob_machine.proofs.Flushed.{cut_last, none_or_some, none_read, put_after, read_last}
 use Rattle.ob_machine.proofs.Sent.{flush_prefix, sent_then}
 use Rattle.ob_machine.proofs.Reached.{step_placed}
 use Rattle.ob_machine.proofs.WholeRuns.{runs_count, runs_follow}
@@ -56,11 +57,12 @@ module _ (image : Image) (settings : RunSettings) (cycle : List ℕ) where
     pub read : List ℕ
     pub written : List ℕ
     pub moves : Moves d d' read written
+    pub last_read : LastRead (run limit) e d d' read written
     pub same : (input_end : InputEnd) (more : List ℕ) (b : Beside) → CanFollow d'.unread more input_end → run limit input_end (reading e (d.unread.bytes ++ (read ++ more)) b) ≡ run n input_end (state_of f (having_written (d'.unread.bytes ++ more) written b))
 
   pub going_first : (limit : ℕ) (e : Execution) (d : Devices) → KnowsEnd d.unread d.left → Going limit limit e e d d
   going_first limit e d knows =
-      record { read = []; written = []; moves = still d knows; same = λ input_end more b can. ap (run limit input_end) (nothing_written e (d.unread.bytes ++ more) b) }
+      record { read = []; written = []; moves = still d knows; last_read = none_read (run limit) e d; same = λ input_end more b can. ap (run limit input_end) (nothing_written e (d.unread.bytes ++ more) b) }
 
   -- the output of two steps
   written_then : (f : Execution) (input written written' : List ℕ) (b : Beside) → state_of f (having_written input written' (having_written input written b)) ≡ state_of f (having_written input (written ++ written') b)
@@ -72,12 +74,39 @@ module _ (image : Image) (settings : RunSettings) (cycle : List ℕ) where
       ap (λ xs. run limit input_end (reading e (d.unread.bytes ++ xs) b)) (append_assoc g.read a.read more)
       ∙ g.same input_end (a.read ++ more) b (can_before d' d'' a.read a.written more input_end a.moves can)
 
+  -- what was read before an instruction that fails to read
+  fails_there : (limit n : ℕ) (e f : Execution) (d d' : Devices) (g : Going limit (suc n) e f d d') → d'.unread.bytes ≡ [] → d'.unread.at_end ≡ false → (b : Beside) (s : State) → does image settings cycle failed (reading (begun f) [] (having_written [] g.written b)) ≡ stops ReadFault s → run limit failed (reading e (d.unread.bytes ++ g.read) b) ≡ record { ending = ReadFault; state = s }
+  fails_there limit n e f d d' g none more b s fails =
+      ap (λ xs. run limit failed (reading e (d.unread.bytes ++ xs) b)) (sym (append-nil g.read))
+      ∙ g.same failed [] b (λ ended. absurd (cc (more, ended)))
+      ∙ ap (λ xs. run (suc n) failed (state_of f (having_written xs g.written b))) (append-nil d'.unread.bytes ∙ none)
+      ∙ ap (λ x. after x (run n failed)) fails
+
+  -- what was read last, after one more instruction
+  read_on : (limit n : ℕ) (e f h : Execution) (d d' d'' : Devices) (answer : Option Ending) (g : Going limit (suc n) e f d d') (a : Advances (does image settings cycle) (begun f) h d' d'' answer) → LastRead (run limit) e d d'' (g.read ++ a.read) (g.written ++ a.written)
+  read_on limit n e f h d d' d'' answer g a = by_read (none_or_some a.read)
+    where
+      ends : NeedsRead (does image settings cycle) (begun f) d' d'' a.read a.written → (b : Beside) → EndsAtRead (run limit failed (reading e (d.unread.bytes ++ g.read) b)) (b.output ++ g.written)
+      ends m b =
+          let x = m.fails (having_written [] g.written b) in
+          let whole = fails_there limit n e f d d' g m.none m.more b x.0 x.1 in
+          (ap (λ y. y.ending) whole, ap (λ y. y.state.output) whole ∙ x.2)
+
+      by_read : (a.read ≡ []) ⊎ (a.read ≢ []) → LastRead (run limit) e d d'' (g.read ++ a.read) (g.written ++ a.written)
+      by_read (inl none) =
+          subst (λ xs. LastRead (run limit) e d d'' xs (g.written ++ a.written)) (sym (ap (λ xs. g.read ++ xs) none ∙ append-nil g.read))
+          (put_after (run limit) e d d' d'' g.read g.written a.written g.last_read a.moves.sent)
+      by_read (inr some) =
+          let m = a.needs some in
+          read_last (run limit) (does image settings cycle) e (begun f) d d' d'' g.read g.written a.read a.written g.moves.sent some m (ends m)
+
   pub going_on : (limit n : ℕ) (e f h : Execution) (d d' d'' : Devices) → Going limit (suc n) e f d d' → Advances (does image settings cycle) (begun f) h d' d'' None → Going limit n e h d d''
   going_on limit n e f h d d' d'' g a =
       record {
         read = g.read ++ a.read;
         written = g.written ++ a.written;
         moves = moves_then d d' d'' g.read g.written a.read a.written g.moves a.moves;
+        last_read = read_on limit n e f h d d' d'' None g a;
         same = λ input_end more b can.
             before_step limit n e f h d d' d'' None g a input_end more b can
             ∙ ap (λ x. after x (run n input_end)) (a.same input_end more (having_written (d'.unread.bytes ++ (a.read ++ more)) g.written b) can)
@@ -90,6 +119,7 @@ module _ (image : Image) (settings : RunSettings) (cycle : List ℕ) where
         read = g.read ++ a.read;
         written = g.written ++ a.written;
         moves = moves_then d d' d'' g.read g.written a.read a.written g.moves a.moves;
+        last_read = read_on limit n e f h d d' d'' (Some ending) g a;
         same = λ input_end more b can.
             before_step limit n e f h d d' d'' (Some ending) g a input_end more b can
             ∙ ap (λ x. after x (run n input_end)) (a.same input_end more (having_written (d'.unread.bytes ++ (a.read ++ more)) g.written b) can)
@@ -97,7 +127,7 @@ module _ (image : Image) (settings : RunSettings) (cycle : List ℕ) where
       }
 
   pub going_spent : (limit : ℕ) (e f : Execution) (d d' : Devices) → Going limit 0 e f d d' → RunEnds (run limit) e f d d' Spent
-  going_spent limit e f d d' g = record { read = g.read; written = g.written; moves = g.moves; same = g.same }
+  going_spent limit e f d d' g = record { read = g.read; written = g.written; moves = g.moves; last_read = g.last_read; same = g.same }
 
   -- the source failed
   pub going_read : (limit n : ℕ) (e f h : Execution) (d d' d'' : Devices) → Going limit (suc n) e f d d' → FailsToRead (does image settings cycle) (begun f) h d' d'' → RunFailsToRead (run limit) e h d d''
@@ -110,15 +140,8 @@ module _ (image : Image) (settings : RunSettings) (cycle : List ℕ) where
         sent = subst (λ bytes. SentOrPending d.taken d''.taken d.tally d''.tally [] bytes) (append-nil (d.pending ++ g.written)) (sent_then d.taken d'.taken d''.taken d.tally d'.tally d''.tally d'.pending [] (d.pending ++ g.written) [] g.moves.sent (subst (λ bytes. SentOrPending d'.taken d''.taken d'.tally d''.tally [] bytes) (sym (append-nil d'.pending)) a.refill.sent));
         nothing_pending = a.refill.nothing_pending;
         write_quiet = a.refill.write_quiet ∙ g.moves.write_quiet;
-        same = λ b.
-            ap (λ xs. run limit failed (reading e (d.unread.bytes ++ xs) b)) (sym (append-nil g.read))
-            ∙ g.same failed [] b (not_ended b)
-            ∙ ap (λ xs. run (suc n) failed (state_of f (having_written xs g.written b))) (append-nil d'.unread.bytes ∙ a.none)
-            ∙ ap (λ x. after x (run n failed)) (a.same (having_written [] g.written b));
+        same = λ b. fails_there limit n e f d d' g a.none a.more b (reading h [] (having_written [] g.written b)) (a.same (having_written [] g.written b));
       }
-    where
-      not_ended : (b : Beside) → CanFollow d'.unread [] failed
-      not_ended b ended = absurd (cc (a.more, ended))
 
   -- the sink failed at what was pending
   pub going_write : (limit n : ℕ) (e f h : Execution) (d d' d'' : Devices) → Going limit n e f d d' → TakesPrefix d'.taken d''.taken d'.tally d''.tally d'.pending → Rose d'.write_faults d''.write_faults → d''.left ≡ d'.left → d''.read_faults ≡ d'.read_faults → ((input_end : InputEnd) (s : State) → s.instructions ≡ f.instructions → h.instructions ≤ (run n input_end s).state.instructions) → RunFailsToWrite (run limit) e h d d''
@@ -130,6 +153,7 @@ module _ (image : Image) (settings : RunSettings) (cycle : List ℕ) where
         read_quiet = quiet ∙ g.moves.read_quiet;
         took = flush_prefix d.taken d'.taken d''.taken d.tally d'.tally d''.tally d'.pending (d.pending ++ g.written) g.moves.sent took;
         cause = subst (λ k. Rose k d''.write_faults) g.moves.write_quiet cause;
+        cut = cut_last (run limit) e d d' d''.taken d''.tally g.read g.written g.last_read took;
         last = d'.unread;
         knows_end = λ ended. subst (λ known. IsAtEnd known) (sym left) (g.moves.knows_end ended);
         begins = λ input_end more b can.
@@ -162,6 +186,9 @@ module _ (image : Image) (settings : RunSettings) (cycle : List ℕ) where
               (record { sent = d'.pending; took = took; tallied = tallied; rest = refl }));
           write_quiet = quiet ∙ g.moves.write_quiet;
         };
+        last_read = subst (λ xs. LastRead (run limit) e d (record d' { pending = []; taken = taken; tally = tally; write_faults = faults }) g.read xs) (append-nil g.written)
+            (put_after (run limit) e d d' (record d' { pending = []; taken = taken; tally = tally; write_faults = faults }) g.read g.written [] g.last_read
+            (record { sent = d'.pending; took = took; tallied = tallied; rest = refl }));
         same = g.same;
       }
 

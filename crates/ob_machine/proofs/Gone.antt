@@ -15,9 +15,10 @@ use Rattle.ob_machine.specs.declared.execution.Execution.{Execution}
 use Rattle.ob_machine.specs.declared.ports.Fault.{Fault}
 use Rattle.ob_machine.specs.declared.ports.Fault.TheVariants.{Read, Write}
 use Rattle.ob_machine.specs.Effects.{IsReady}
-use Rattle.ob_machine.specs.Exchanges.{Advances, Answers, Devices, KnowsEnd, RunAnswers, RunEnds, RunFailsToWrite, begun}
+use Rattle.ob_machine.specs.Exchanges.{Advances, Answers, Devices, KnowsEnd, RunAnswers, RunEnds, RunFailsToWrite, begun, reading}
 use Rattle.ob_machine.specs.Executions.{Beside, Is, SameRows, setup, state_of}
 use Rattle.ob_machine.proofs.Exchanged.{nothing_written, still}
+use Rattle.ob_machine.proofs.Flushed.{cut_as, last_as, none_read}
 use Rattle.ob_machine.proofs.Going.{Going, counts_none, counts_one, going_end, going_on, going_read, going_write, none_beside}
 use Rattle.ob_machine.proofs.Reached.{start_placed}
 use Rattle.ob_machine.proofs.Stepped.{does}
@@ -56,10 +57,15 @@ module _ (image : Image) (settings : RunSettings) (cycle : List ℕ) where
         read = [];
         written = [];
         moves = still d knows;
+        last_read = none_read (whole limit) e d;
         same = λ input_end more b can.
             ap (λ x. after x (run_of image settings cycle limit input_end)) (stopped (record b { input = d.unread.bytes ++ more }))
             ∙ (λ i. record { ending = ending; state = nothing_written f (d.unread.bytes ++ more) b i });
       }
+
+  -- the whole run goes as the run from where it started
+  goes_as : (limit : ℕ) (e f : Execution) → ((r : Beside) → started image (state_of e r) ≡ goes (state_of f r)) → (input_end : InputEnd) (input : List ℕ) (b : Beside) → whole limit input_end (reading e input b) ≡ run_of image settings cycle limit input_end (reading f input b)
+  goes_as limit e f starts input_end input b = ap (λ x. after x (run_of image settings cycle limit input_end)) (starts (record b { input = input }))
 
   pub run_started : (limit : ℕ) (e f h : Execution) (d d' : Devices) (answer : Result Ending Fault) → ((r : Beside) → started image (state_of e r) ≡ goes (state_of f r)) → RunAnswers (run_of image settings cycle limit) f h d d' answer → RunAnswers (whole limit) e h d d' answer
   run_started limit e f h d d' (Ok ending) starts a =
@@ -67,8 +73,9 @@ module _ (image : Image) (settings : RunSettings) (cycle : List ℕ) where
         read = a.read;
         written = a.written;
         moves = a.moves;
+        last_read = last_as (run_of image settings cycle limit) (whole limit) e f d (goes_as limit e f starts failed) d' a.read a.written a.last_read;
         same = λ input_end more b can.
-            ap (λ x. after x (run_of image settings cycle limit input_end)) (starts (record b { input = d.unread.bytes ++ (a.read ++ more) })) ∙ a.same input_end more b can;
+            goes_as limit e f starts input_end (d.unread.bytes ++ (a.read ++ more)) b ∙ a.same input_end more b can;
       }
   run_started limit e f h d d' (Err Read) starts a =
       record {
@@ -79,10 +86,10 @@ module _ (image : Image) (settings : RunSettings) (cycle : List ℕ) where
         sent = a.sent;
         nothing_pending = a.nothing_pending;
         write_quiet = a.write_quiet;
-        same = λ b. ap (λ x. after x (run_of image settings cycle limit failed)) (starts (record b { input = d.unread.bytes ++ a.read })) ∙ a.same b;
+        same = λ b. goes_as limit e f starts failed (d.unread.bytes ++ a.read) b ∙ a.same b;
       }
   run_started limit e f h d d' (Err Write) starts a =
-      let begins = λ (input_end : InputEnd) (input : List ℕ) (b : Beside). ap (λ x. after x (run_of image settings cycle limit input_end)) (starts (record b { input = input })) in
+      let begins = goes_as limit e f starts in
       record {
         read = a.read;
         written = a.written;
@@ -90,6 +97,7 @@ module _ (image : Image) (settings : RunSettings) (cycle : List ℕ) where
         read_quiet = a.read_quiet;
         took = a.took;
         cause = a.cause;
+        cut = cut_as (run_of image settings cycle limit) (whole limit) e f d (goes_as limit e f starts failed) d'.taken d'.tally a.read a.written a.cut;
         last = a.last;
         knows_end = a.knows_end;
         begins = λ input_end more b can. subst (λ x. Begins (b.output ++ a.written) x.state.output) (sym (begins input_end (d.unread.bytes ++ (a.read ++ more)) b)) (a.begins input_end more b can);

@@ -18,8 +18,8 @@ use Rattle.ob_machine.specs.declared.ports.Ports.{Ports}
 use Rattle.ob_base.specs.Devices.{Reading, Writing}
 use Rattle.ob_machine.specs.Devices.{IsInput}
 use Rattle.ob_machine.specs.Executions.{SameRows, setup, state_of}
-use Rattle.ob_machine.specs.Finished.{Broken, ComesOut, Ended, at_start}
-use Rattle.ob_machine.specs.Machines.{ComesTo, MachineState, RunsOn}
+use Rattle.ob_machine.specs.Finished.{Broken, ComesOut, Ended, Flushed, at_start}
+use Rattle.ob_machine.specs.Machines.{ComesTo, IsFlushedBeforeReads, MachineState, RunsOn}
 use Rattle.ob_machine.specs.Wiring.{IsUnused}
 use Rattle.ob_machine.proofs.Reached.{first_next, no_calls}
 use Rattle.ob_machine.proofs.Tells.{CanEnd}
@@ -56,14 +56,14 @@ machine_of image e fresh = record { image = image; settings = e.space.settings; 
 abbrev pub machine_after : Image → Execution → MachineState
 machine_after image f = record { image = image; settings = f.space.settings; space = f.space.space; is_fresh = false; instructions = f.instructions }
 
-came_to : (image : Image) (e f : Execution) (fresh : Bool) (final : Final) (w : Writing) (answer : Ending) → f.space.settings ≡ e.space.settings → Ended final f w answer ⊎ Broken final f w answer → ComesTo final (machine_of image e fresh) (machine_after image f) answer w
-came_to image e f fresh final w answer same (inl h) =
+came_to : (image : Image) (e f : Execution) (fresh : Bool) (final : Final) (w : Writing) (answer : Ending) (Cut : Type 0) → f.space.settings ≡ e.space.settings → Ended final f w answer ⊎ (Broken final f w answer × Cut) → ComesTo final (machine_of image e fresh) (machine_after image f) answer w
+came_to image e f fresh final w answer Cut same (inl h) =
     inl (record {
       ending = h.ending;
       output = h.output;
       machine = λ i. record { image = image; settings = same i; space = h.space i; is_fresh = false; instructions = h.instructions i };
     })
-came_to image e f fresh final w answer same (inr h) =
+came_to image e f fresh final w answer Cut same (inr (h, cut)) =
     inr (record {
       ending = h.ending;
       output = h.output;
@@ -77,8 +77,27 @@ runs_on image e f p fresh cycle place steps limit answer r w u is rows out =
       input = out.input;
       input_end = out.input_end;
       is_input = out.is_input;
-      comes_to = came_to image e f fresh _ w answer rows.settings (subst (λ final. Ended final f w answer ⊎ Broken final f w answer) (final_is image e p steps limit place cycle out.input out.input_end u is) out.comes);
+      comes_to = came_to image e f fresh _ w answer _ rows.settings (subst (λ final. Ended final f w answer ⊎ (Broken final f w answer × Flushed (run_of image e.space.settings cycle limit) (given e steps) place r w)) (final_is image e p steps limit place cycle out.input out.input_end u is) out.comes);
     }
+
+-- where a write failed, output had been sent before each read
+pub flushes : (image : Image) (e f : Execution) (p : Ports) (cycle : List ℕ) (place steps limit : ℕ) (answer : Ending) (r : Reading) (w : Writing) → IsUnused image e p → limit ≡ most_instructions image steps → ComesOut (run_of image e.space.settings cycle limit) (given e steps) f r w place answer → answer ≡ WriteFault → IsFlushedBeforeReads (λ input input_end. flat_final image e.space.settings cycle place input input_end steps) r w
+flushes image e f p cycle place steps limit answer r w u is out written =
+    by_coming (subst (λ final. Ended final f w answer ⊎ (Broken final f w answer × Cut)) (final_is image e p steps limit place cycle out.input out.input_end u is) out.comes) can_end
+  where
+    Cut : Type 0
+    Cut = Flushed (run_of image e.space.settings cycle limit) (given e steps) place r w
+
+    final : Final
+    final = flat_final image e.space.settings cycle place out.input out.input_end steps
+
+    can_end : (final.ending ≡ Spent) ⊎ CanEnd out.input_end final.ending
+    can_end = (run_follows (record { image = image; settings = e.space.settings; cycle = cycle; input_end = out.input_end }) (laid_out stack_bytes image.statics image.pointers e.space.settings) place out.input steps).ending
+
+    by_coming : Ended final f w answer ⊎ (Broken final f w answer × Cut) → (final.ending ≡ Spent) ⊎ CanEnd out.input_end final.ending → IsFlushedBeforeReads (λ input input_end. flat_final image e.space.settings cycle place input input_end steps) r w
+    by_coming (inl d) (inl spent) = absurd (let same : WriteFault ≡ Spent = sym written ∙ d.ending ∙ spent in cc)
+    by_coming (inl d) (inr can) = absurd (subst (CanEnd out.input_end) (sym d.ending ∙ written) can)
+    by_coming (inr (b, cut)) c = subst (λ final. IsFlushedBeforeReads final r w) (λ i input input_end. final_is image e p steps limit place cycle input input_end u is i) cut
 
 module _ (m after' : MachineState) (cycle : List ℕ) (place steps : ℕ) (answer : Ending) (r : Reading) (w : Writing) (h : RunsOn m after' cycle place steps answer r w) where
   abbrev final : Final

@@ -3,6 +3,7 @@ pub mod Filled
 pub mod Tells
 pub mod Placed
 pub mod WholeRuns
+pub mod Flushed
 pub mod Reached
 pub mod Words
 pub mod Handed

@@ -10,7 +10,7 @@ use Rattle.ob_machine.specs.Progress.{Leads, Reaches}
 use Rattle.ob_machine.proofs.Tells as tells
 use Rattle.ob_machine.proofs.Tells.{CanEnd, IsAfter, Tells, act_on, quiet}
 
-begins_then : (xs ys zs : List ℕ) → Begins xs ys → Begins ys zs → Begins xs zs
+pub begins_then : (xs ys zs : List ℕ) → Begins xs ys → Begins ys zs → Begins xs zs
 begins_then xs ys zs p q = (p.0 ++ q.0, q.1 ∙ ap (λ l. l ++ q.0) p.1 ∙ append_assoc xs p.0 q.0)
 
 -- where a run from a state comes to

@@ -1,8 +1,8 @@
 -- What goes through the buffers while a run goes on, and where it fails at a device.
-use Rattle.std.specs.Prelude.{◌≡◌, ℕ, ◌+◌, ◌≤◌, true, false, List, [], ◌∷◌, ◌++◌, Option, Some, None, Result, Ok, Err}
-use Rattle.std.specs.Io.KnownBytes.{prepend_known, IsAtEnd}
+use Rattle.std.specs.Prelude.{◌≡◌, ◌≢◌, ℕ, ◌+◌, ◌≤◌, true, false, List, [], ◌∷◌, ◌++◌, length, Option, Some, None, Result, Ok, Err}
+use Rattle.std.specs.Io.KnownBytes.{append_known, prepend_known, IsAtEnd}
 use Rattle.ob_base.specs.Faults.{Rose}
-use Rattle.ob_base.specs.Sink.{Tally, TakesPrefix}
+use Rattle.ob_base.specs.Sink.{Tally, TakesPrefix, tally_known}
 use Rattle.ob_model.specs.declared.endings.Ending.{Ending}
 use Rattle.ob_model.specs.declared.endings.Ending.TheVariants.{ReadFault}
 use Rattle.ob_model.specs.Endings.{Begins, InputEnd, closed, failed}
@@ -45,11 +45,12 @@ pub record Moves (d d' : Devices) (read written : List ℕ) : Type 0 where
   pub sent : SentOrPending d.taken d'.taken d.tally d'.tally d'.pending (d.pending ++ written)
   pub write_quiet : d'.write_faults ≡ d.write_faults
 
--- all that was pending was sent, and a read gave bytes or met the end
+-- all that was pending was sent, and a read gave bytes, 4,096 at most, or met the end
 pub record IsRefilled (d d' : Devices) : Type 0 where
   pub moves : Moves d d' d'.unread.bytes []
   pub nothing_pending : d'.pending ≡ []
   pub filled : IsFilled d'.unread d'.left
+  pub few : length d'.unread.bytes ≤ 4096
 
 pub record RefillFailsToRead (d d' : Devices) : Type 0 where
   pub left : d'.left ≡ d.left
@@ -82,11 +83,27 @@ begun e = record e { instructions = e.instructions + 1 }
 
 -- ---- one instruction, as a definition says what it does on an input that ends so
 
+-- an instruction, and a run, that fails at a read, after this output
+abbrev pub FailsToGet : Next → List ℕ → Type 0
+FailsToGet x output = (s : State) × (x ≡ stops ReadFault s) × (s.output ≡ output)
+
+abbrev pub EndsAtRead : Final → List ℕ → Type 0
+EndsAtRead final output = (final.ending ≡ ReadFault) × (final.state.output ≡ output)
+
+-- bytes were read, 4,096 at most: the instruction needs them, and all that was pending had been sent before
+pub record NeedsRead (does : InputEnd → State → Next) (e : Execution) (d d' : Devices) (read written : List ℕ) : Type 0 where
+  pub none : d.unread.bytes ≡ []
+  pub more : d.unread.at_end ≡ false
+  pub few : length read ≤ 4096
+  pub fails : (b : Beside) → FailsToGet (does failed (reading e [] b)) b.output
+  pub sent : SentOrPending (append_known d.taken d.pending) d'.taken (tally_known d.tally d.pending) d'.tally d'.pending written
+
 -- it was done, whatever more will come
 pub record Advances (does : InputEnd → State → Next) (e f : Execution) (d d' : Devices) (answer : Option Ending) : Type 0 where
   pub read : List ℕ
   pub written : List ℕ
   pub moves : Moves d d' read written
+  pub needs : read ≢ [] → NeedsRead does e d d' read written
   pub same : (input_end : InputEnd) (more : List ℕ) (b : Beside) → CanFollow d'.unread more input_end → Is answer (does input_end (reading e (d.unread.bytes ++ (read ++ more)) b)) f (having_written (d'.unread.bytes ++ more) written b)
 
 -- the source failed when all that it gave before was taken, and all that was written had been sent
@@ -113,10 +130,43 @@ Puts (Some ending) old new x e b = (new ≡ old) × (x ≡ stops ending (state_o
 
 -- ---- a whole run
 
+-- on the bytes before the last that were read the run fails at a read, and what it writes until then was sent
+pub record NeedsLast (run : InputEnd → State → Final) (e : Execution) (d : Devices) (before sent : List ℕ) : Type 0 where
+  pub out : List ℕ
+  pub begins : Begins (d.pending ++ out) sent
+  pub fails : (b : Beside) → EndsAtRead (run failed (reading e (d.unread.bytes ++ before) b)) (b.output ++ out)
+
+-- what the last read gave that gave bytes, and what had been sent before it
+pub record LastRead (run : InputEnd → State → Final) (e : Execution) (d d' : Devices) (read written : List ℕ) : Type 0 where
+  pub before : List ℕ
+  pub last : List ℕ
+  pub read_is : read ≡ before ++ last
+  pub few : length last ≤ 4096
+  pub none : last ≡ [] → before ≡ []
+  pub first : List ℕ
+  pub behind : List ℕ
+  pub written_is : first ++ behind ≡ d.pending ++ written
+  pub sent : SentOrPending (append_known d.taken first) d'.taken (tally_known d.tally first) d'.tally d'.pending behind
+  pub needs : last ≢ [] → NeedsLast run e d before first
+
+-- the same where the sink failed then
+pub record CutAfterRead (run : InputEnd → State → Final) (e : Execution) (d : Devices) (taken : Option (List ℕ)) (tally : Option Tally) (read written : List ℕ) : Type 0 where
+  pub before : List ℕ
+  pub last : List ℕ
+  pub read_is : read ≡ before ++ last
+  pub few : length last ≤ 4096
+  pub none : last ≡ [] → before ≡ []
+  pub sent : List ℕ
+  pub took : taken ≡ append_known d.taken sent
+  pub tallied : tally ≡ tally_known d.tally sent
+  pub begins : Begins sent (d.pending ++ written)
+  pub needs : last ≢ [] → NeedsLast run e d before sent
+
 pub record RunEnds (run : InputEnd → State → Final) (e f : Execution) (d d' : Devices) (ending : Ending) : Type 0 where
   pub read : List ℕ
   pub written : List ℕ
   pub moves : Moves d d' read written
+  pub last_read : LastRead run e d d' read written
   pub same : (input_end : InputEnd) (more : List ℕ) (b : Beside) → CanFollow d'.unread more input_end → run input_end (reading e (d.unread.bytes ++ (read ++ more)) b) ≡ record { ending = ending; state = state_of f (having_written (d'.unread.bytes ++ more) written b) }
 
 pub record RunFailsToRead (run : InputEnd → State → Final) (e f : Execution) (d d' : Devices) : Type 0 where
@@ -137,6 +187,7 @@ pub record RunFailsToWrite (run : InputEnd → State → Final) (e f : Execution
   pub read_quiet : d'.read_faults ≡ d.read_faults
   pub took : TakesPrefix d.taken d'.taken d.tally d'.tally (d.pending ++ written)
   pub cause : Rose d.write_faults d'.write_faults
+  pub cut : CutAfterRead run e d d'.taken d'.tally read written
   pub last : Unread
   pub knows_end : KnowsEnd last d'.left
   pub begins : (input_end : InputEnd) (more : List ℕ) (b : Beside) → CanFollow last more input_end → Begins (b.output ++ written) (run input_end (reading e (d.unread.bytes ++ (read ++ more)) b)).state.output

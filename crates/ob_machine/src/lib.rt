@@ -1,7 +1,8 @@
 //! The machine that runs images. `Machine::run` is exactly the run that the definition of the flat
 //! machine gives for the image: its ending, its output, its memory and the number of its instructions.
-//! Input and output go through buffers of 4,096 bytes; after `load` the machine takes no memory. The laws
-//! say where a run's instructions stand and when a run is spent.
+//! Input and output go through buffers of 4,096 bytes, and what was written goes out before the machine
+//! waits for input; after `load` the machine takes no memory. The laws say where a run's instructions stand
+//! and when a run is spent.
 //!
 //! Stands on `ob_space` for memory, on `ob_code` for images and the definition, on `ob_model` for endings,
 //! on `ob_base` for devices, and on `ob_words` for arithmetic.

@@ -8,7 +8,7 @@ ghost use Rattle.ob_space.specs.Unbuilt.{IsBuilt};
 ghost use Rattle.ob_code.specs.Start.{most_instructions};
 ghost use Rattle.ob_code.specs.declared.image.FunctionRow.{FunctionRow};
 ghost use Rattle.std.specs.Prelude.{ℕ};
-ghost use Rattle.ob_machine.specs.Machines.{Runs, loaded};
+ghost use Rattle.ob_machine.specs.Machines.{Flushes, Runs, loaded};
 
 use crate::buffers::input::InputBuffer;
 use crate::buffers::output::OutputBuffer;
@@ -116,14 +116,16 @@ impl Machine {
     ///
     /// Bytes are read up to 4,096 at a time, so that more may be read than the program took; after the end
     /// of the input no read is made. Output is written in pieces of 4,096 bytes, before each read, and at
-    /// the end. Where a read fails, the run ends with `ReadFault` once the program took all that was read
-    /// before. Where a write fails, it ends with `WriteFault`, and `out` has taken a prefix of the output.
-    /// `Spent` comes exactly where `(instructions in the code + 1) * (steps + 1)` instructions were done
-    /// and none of them ended the run.
+    /// the end: a prompt comes before the wait for its answer (C99 5.1.2.3 and 7.19.3). Where a read
+    /// fails, the run ends with `ReadFault` once the program took all that was read before. Where a write
+    /// fails, it ends with `WriteFault`, and `out` has taken a prefix of the output; all that the program
+    /// wrote before the last bytes were read is in it. `Spent` comes exactly where
+    /// `(instructions in the code + 1) * (steps + 1)` instructions were done and none of them ended the run.
     pub fn run<S: Source, K: Sink>(&mut self, steps: u64, input: &mut S, out: &mut K) -> Ending
         requires fresh { IsTrue self.old.is_fresh }
         requires steps { steps ≤ 1000000000 }
         ensures run { Runs self.old self.new steps result (record { left_before = S.left input.old; left_now = S.left input.new; faults_before = S.faults input.old; faults_now = S.faults input.new }) (record { taken_before = K.taken out.old; taken_now = K.taken out.new; tally_before = K.tally out.old; tally_now = K.tally out.new; faults_before = K.faults out.old; faults_now = K.faults out.new }) }
+        ensures flush { Flushes self.old steps result (record { left_before = S.left input.old; left_now = S.left input.new; faults_before = S.faults input.old; faults_now = S.faults input.new }) (record { taken_before = K.taken out.old; taken_now = K.taken out.new; tally_before = K.tally out.old; tally_now = K.tally out.new; faults_before = K.faults out.old; faults_now = K.faults out.new }) }
         ensures read_fault { result ≡ ending.ReadFault → Rose (S.faults input.old) (S.faults input.new) }
         ensures write_fault { result ≡ ending.WriteFault → Rose (K.faults out.old) (K.faults out.new) }
         ensures memory { result ≢ ending.NoMemory }

@@ -1,6 +1,7 @@
-//! That the calls find memory, how devices that fail end a run, and that nothing is read after the end.
+//! That the calls find memory, how devices that fail end a run, that output goes out before a read, and which calls of
+//! its devices a run makes.
 
-use ob_base::{MemSink, MemSource, Source};
+use ob_base::{MemSink, MemSource, Sink, Source};
 use ob_code::{FunctionRow, Image, Instr, Rows, verify};
 use ob_machine::Machine;
 use ob_model::{Ending, Mode, Profile, RunSettings};
@@ -22,6 +23,26 @@ const ECHO: [Instr; 8] = [
         c: 3,
     },
     Instr::JumpNonzero { b: 4, imm: 6 },
+    Instr::PutChar { a: 3, b: 2 },
+    Instr::Jump { imm: 0 },
+    Instr::Set { a: 2, imm: 0 },
+    Instr::Return { b: 2 },
+];
+
+// Asks by `?`, reads a byte and writes it, to the end of the input.
+const PROMPTS: [Instr; 10] = [
+    Instr::Set { a: 2, imm: 63 },
+    Instr::PutChar { a: 3, b: 2 },
+    Instr::GetChar { a: 2 },
+    Instr::Set { a: 3, imm: -1 },
+    Instr::Compare {
+        kind: IntType::Long,
+        relation: Relation::Eq,
+        a: 4,
+        b: 2,
+        c: 3,
+    },
+    Instr::JumpNonzero { b: 4, imm: 8 },
     Instr::PutChar { a: 3, b: 2 },
     Instr::Jump { imm: 0 },
     Instr::Set { a: 2, imm: 0 },
@@ -170,5 +191,40 @@ fn no_call_without_need(rt: HostRuntime) -> Result<(), Fail> {
     let mut out = MemSink::new(alloc, 16, &[0], 1)?;
     assert_eq!(&rt; machine.run(100, &mut input, &mut out), Ending::Ended(7));
     assert!(&rt; input.read(&mut [0]).is_err());
+    Ok(())
+}
+
+// The number of the write that fails, what was written until then, and how many reads were made.
+const BROKEN: [(u64, &str, u64); 3] = [(0, "", 0), (1, "?", 1), (2, "?a?", 2)];
+
+// Each prompt is written before its answer is read: where that write fails, the read isn't made.
+#[test]
+fn prompts_before_reads(rt: HostRuntime) -> Result<(), Fail> {
+    let alloc = rt.alloc();
+    for (write, written, reads) in &BROKEN {
+        let mut machine = loaded(&rt, alloc, &PROMPTS)?;
+        assert!(&rt; machine.is_fresh());
+        let mut input = MemSource::new(alloc, b"ab", &[*reads], 1)?;
+        let mut out = MemSink::new(alloc, 16, &[*write], 16)?;
+        assert_eq!(&rt; machine.run(100, &mut input, &mut out), Ending::WriteFault);
+        assert_eq!(&rt; out.taken(), written.as_bytes());
+        assert!(&rt; input.read(&mut [0]).is_err());
+    }
+    Ok(())
+}
+
+// The echo of two bytes takes two reads, of the bytes and of the end, and one write, since nothing is pending before the
+// first read and after the last.
+#[test]
+fn calls_of_a_run(rt: HostRuntime) -> Result<(), Fail> {
+    let alloc = rt.alloc();
+    let mut machine = loaded(&rt, alloc, &ECHO)?;
+    assert!(&rt; machine.is_fresh());
+    let mut input = MemSource::new(alloc, b"ab", &[2], 16)?;
+    let mut out = MemSink::new(alloc, 16, &[1], 16)?;
+    assert_eq!(&rt; machine.run(100, &mut input, &mut out), Ending::Ended(0));
+    assert_eq!(&rt; out.taken(), b"ab".as_slice());
+    assert!(&rt; input.read(&mut [0]).is_err());
+    assert!(&rt; out.write(b"c").is_err());
     Ok(())
 }

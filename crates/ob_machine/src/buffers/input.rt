@@ -1,4 +1,4 @@
-ghost use Rattle.std.specs.Prelude.{◌≡◌, ◌<◌, ◌↔◌, [], ◌∷◌, length, IsTrue, IfOk, OnOk, OnErr, MatchBool, MatchOption};
+ghost use Rattle.std.specs.Prelude.{◌≡◌, ◌<◌, ◌≤◌, ◌↔◌, [], ◌∷◌, length, IsTrue, IfOk, OnOk, OnErr, MatchBool, MatchOption};
 ghost use Rattle.std.specs.Io.KnownBytes.{prepend_known, IsAtEnd};
 ghost use Rattle.ob_base.specs.Faults.{Rose};
 ghost use Rattle.ob_machine.specs.Buffers.{nothing_read, IsFilled, IsUsedUp};
@@ -52,6 +52,7 @@ impl InputBuffer {
         requires { IsUsedUp self.old }
         ensures read { OnOk result (S.left source.old ≡ prepend_known self.new.bytes (S.left source.new)) }
         ensures end { OnOk result (IsFilled self.new (S.left source.new)) }
+        ensures few { OnOk result (length self.new.bytes ≤ 4096) }
         ensures quiet { OnOk result (S.faults source.new ≡ S.faults source.old) }
         ensures kept { OnErr result (self.new ≡ self.old) }
         ensures bytes_kept { OnErr result (S.left source.new ≡ S.left source.old) }

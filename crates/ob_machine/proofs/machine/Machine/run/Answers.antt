@@ -1,9 +1,9 @@
 use Rattle.std.proofs.Common.{◌≡◌, ◌+◌, ◌*◌, true, [], ◌∷◌, length, ap, ◌∙◌, subst, arith}
-use Rattle.ob_code.specs.Start.{most_instructions}
+use Rattle.ob_code.specs.Start.{flat_final, most_instructions}
 use Rattle.ob_base.specs.Devices.{Reading, Writing}
 use Rattle.ob_machine.specs.Finished.{ComesOut}
-use Rattle.ob_machine.specs.Machines.{RunsOn}
-use Rattle.ob_machine.proofs.Launched.{given, machine_after, no_memory, read_cause, run_of, runs_on, unused_calls, unused_numbered, within_bound, write_cause}
+use Rattle.ob_machine.specs.Machines.{IsFlushedBeforeReads, RunsOn}
+use Rattle.ob_machine.proofs.Launched.{flushes, given, machine_after, no_memory, read_cause, run_of, runs_on, unused_calls, unused_numbered, within_bound, write_cause}
 use Rattle.ob_machine.proofs.machine.Machine.run.Goals as goal
 
 pub run_out-requires-clause-calls : goal.run_out-requires-clause-calls
@@ -27,6 +27,19 @@ returns-clause-run g c =
     λ cycle place inside. subst (λ m. RunsOn m (machine_after i.image c.run_out.new.self) cycle place c.args.steps c.run_out.result r w) c.self.view_is
     (runs_on i.image i.execution c.run_out.new.self i.ports i.fresh cycle place c.args.steps ((length c.as_slice.result.now + 1) * (c.args.steps + 1)) c.run_out.result r w (c.self.invariant.unused fresh) limit c.run_out.ensures.rows
     (subst (λ image. ComesOut (run_of image i.execution.space.settings cycle ((length c.as_slice.result.now + 1) * (c.args.steps + 1))) (given i.execution c.args.steps) c.run_out.new.self r w place c.run_out.result) c.image-image.ensures.value (c.run_out.ensures.comes i.execution.space.settings cycle place)))
+
+pub returns-clause-flush : goal.returns-clause-flush
+returns-clause-flush g c =
+    let i = c.self.inside in
+    let fresh : i.fresh ≡ true = ap (λ m. m.is_fresh) c.self.view_is ∙ c.requires.fresh in
+    let code = c.as_slice.ensures ∙ ap (λ image. image.code) c.image-image.ensures.value in
+    let limit : (length c.as_slice.result.now + 1) * (c.args.steps + 1) ≡ most_instructions i.image c.args.steps = ap (λ xs. (length xs + 1) * (c.args.steps + 1)) code in
+    let r : Reading = record { left_before = g.S.Source.left c.args.input.now; left_now = g.S.Source.left c.run_out.new.source; faults_before = g.S.Source.faults c.args.input.now; faults_now = g.S.Source.faults c.run_out.new.source } in
+    let w : Writing = record { taken_before = g.K.Sink.taken c.args.out.now; taken_now = g.K.Sink.taken c.run_out.new.sink; tally_before = g.K.Sink.tally c.args.out.now; tally_now = g.K.Sink.tally c.run_out.new.sink; faults_before = g.K.Sink.faults c.args.out.now; faults_now = g.K.Sink.faults c.run_out.new.sink } in
+    λ written cycle place inside. subst (λ m. IsFlushedBeforeReads (λ input input_end. flat_final m.image m.settings cycle place input input_end c.args.steps) r w) c.self.view_is
+    (flushes i.image i.execution c.run_out.new.self i.ports cycle place c.args.steps ((length c.as_slice.result.now + 1) * (c.args.steps + 1)) c.run_out.result r w (c.self.invariant.unused fresh) limit
+    (subst (λ image. ComesOut (run_of image i.execution.space.settings cycle ((length c.as_slice.result.now + 1) * (c.args.steps + 1))) (given i.execution c.args.steps) c.run_out.new.self r w place c.run_out.result) c.image-image.ensures.value (c.run_out.ensures.comes i.execution.space.settings cycle place))
+    written)
 
 pub returns-clause-read_fault : goal.returns-clause-read_fault
 returns-clause-read_fault g c = let h = returns-clause-run g c (0 ∷ []) 0 (omega arith) in λ is. read_cause _ _ (0 ∷ []) 0 c.args.steps c.run_out.result _ _ h is
