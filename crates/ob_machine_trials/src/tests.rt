@@ -102,6 +102,19 @@ const SETTINGS: RunSettings = RunSettings {
     profile: Profile::One,
 };
 
+// How a run of a fresh machine with this code ends on these devices.
+fn ending(
+    rt: &impl Abort,
+    alloc: Global,
+    code: &[Instr],
+    input: &mut MemSource,
+    out: &mut MemSink,
+) -> Result<Ending, Fail> {
+    let mut machine = loaded(rt, alloc, code)?;
+    assert!(rt; machine.is_fresh());
+    Ok(machine.run(5_000, input, out))
+}
+
 // Runs twice on devices that move one byte a call, with a fresh machine each time. The second run's input
 // is `ab`, and the read and the write of these numbers fail.
 fn runs(
@@ -167,15 +180,10 @@ const DOTS: [Instr; 3] = [
 // Output is written in pieces of 4,096 bytes: the second write is the one that fails.
 #[test]
 fn pieces_of_4096_bytes(rt: HostRuntime) -> Result<(), Fail> {
-    let alloc = rt.alloc();
-    let mut machine = loaded(&rt, alloc, &DOTS)?;
-    assert!(&rt; machine.is_fresh());
-    let mut input = MemSource::new(alloc, b"", &[0], 1)?;
-    let mut out = MemSink::new(alloc, 16_384, &[1], 16_384)?;
-    assert_eq!(&rt;
-        machine.run(5_000, &mut input, &mut out),
-        Ending::WriteFault
-    );
+    let mut input = MemSource::new(rt.alloc(), b"", &[0], 1)?;
+    let mut out = MemSink::new(rt.alloc(), 16_384, &[1], 16_384)?;
+    let came = ending(&rt, rt.alloc(), &DOTS, &mut input, &mut out)?;
+    assert_eq!(&rt; came, Ending::WriteFault);
     assert_eq!(&rt; out.taken().len(), 4_096);
     Ok(())
 }
@@ -183,33 +191,12 @@ fn pieces_of_4096_bytes(rt: HostRuntime) -> Result<(), Fail> {
 // A run that reads and writes nothing makes no call of a device.
 #[test]
 fn no_call_without_need(rt: HostRuntime) -> Result<(), Fail> {
-    let alloc = rt.alloc();
     let code = [Instr::Set { a: 2, imm: 7 }, Instr::Return { b: 2 }];
-    let mut machine = loaded(&rt, alloc, &code)?;
-    assert!(&rt; machine.is_fresh());
-    let mut input = MemSource::new(alloc, b"x", &[0], 1)?;
-    let mut out = MemSink::new(alloc, 16, &[0], 1)?;
-    assert_eq!(&rt; machine.run(100, &mut input, &mut out), Ending::Ended(7));
-    assert!(&rt; input.read(&mut [0]).is_err());
-    Ok(())
-}
-
-// The number of the write that fails, what was written until then, and how many reads were made.
-const BROKEN: [(u64, &str, u64); 3] = [(0, "", 0), (1, "?", 1), (2, "?a?", 2)];
-
-// Each prompt is written before its answer is read: where that write fails, the read isn't made.
-#[test]
-fn prompts_before_reads(rt: HostRuntime) -> Result<(), Fail> {
-    let alloc = rt.alloc();
-    for (write, written, reads) in &BROKEN {
-        let mut machine = loaded(&rt, alloc, &PROMPTS)?;
-        assert!(&rt; machine.is_fresh());
-        let mut input = MemSource::new(alloc, b"ab", &[*reads], 1)?;
-        let mut out = MemSink::new(alloc, 16, &[*write], 16)?;
-        assert_eq!(&rt; machine.run(100, &mut input, &mut out), Ending::WriteFault);
-        assert_eq!(&rt; out.taken(), written.as_bytes());
-        assert!(&rt; input.read(&mut [0]).is_err());
-    }
+    let mut input = MemSource::new(rt.alloc(), b"x", &[0], 1)?;
+    let mut out = MemSink::new(rt.alloc(), 16, &[0], 1)?;
+    let came = ending(&rt, rt.alloc(), &code, &mut input, &mut out)?;
+    assert_eq!(&rt; came, Ending::Ended(7));
+    assert!(&rt; input.read(&mut [0]).is_err() && out.write(b"c").is_err());
     Ok(())
 }
 
@@ -217,14 +204,35 @@ fn prompts_before_reads(rt: HostRuntime) -> Result<(), Fail> {
 // first read and after the last.
 #[test]
 fn calls_of_a_run(rt: HostRuntime) -> Result<(), Fail> {
-    let alloc = rt.alloc();
-    let mut machine = loaded(&rt, alloc, &ECHO)?;
-    assert!(&rt; machine.is_fresh());
-    let mut input = MemSource::new(alloc, b"ab", &[2], 16)?;
-    let mut out = MemSink::new(alloc, 16, &[1], 16)?;
-    assert_eq!(&rt; machine.run(100, &mut input, &mut out), Ending::Ended(0));
-    assert_eq!(&rt; out.taken(), b"ab".as_slice());
-    assert!(&rt; input.read(&mut [0]).is_err());
-    assert!(&rt; out.write(b"c").is_err());
+    let mut input = MemSource::new(rt.alloc(), b"ab", &[2], 16)?;
+    let mut out = MemSink::new(rt.alloc(), 16, &[1], 16)?;
+    let came = ending(&rt, rt.alloc(), &ECHO, &mut input, &mut out)?;
+    assert_eq!(&rt; came, Ending::Ended(0));
+    assert!(&rt; input.read(&mut [0]).is_err() && out.write(b"c").is_err());
     Ok(())
+}
+
+// Runs on `ab`, one byte a read, where this write fails. So many reads are made, and the next would fail too.
+fn prompted(
+    rt: &impl Abort,
+    alloc: Global,
+    write: u64,
+    reads: u64,
+    written: &str,
+) -> Result<(), Fail> {
+    let mut input = MemSource::new(alloc, b"ab", &[reads], 1)?;
+    let mut out = MemSink::new(alloc, 16, &[write], 16)?;
+    let came = ending(rt, alloc, &PROMPTS, &mut input, &mut out)?;
+    assert_eq!(rt; came, Ending::WriteFault);
+    assert_eq!(rt; out.taken(), written.as_bytes());
+    assert!(rt; input.read(&mut [0]).is_err());
+    Ok(())
+}
+
+// Each prompt is written before its answer is read: where that write fails, the read isn't made.
+#[test]
+fn prompts_before_reads(rt: HostRuntime) -> Result<(), Fail> {
+    prompted(&rt, rt.alloc(), 0, 0, "")?;
+    prompted(&rt, rt.alloc(), 1, 1, "?")?;
+    prompted(&rt, rt.alloc(), 2, 2, "?a?")
 }
