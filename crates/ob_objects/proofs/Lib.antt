@@ -1,2 +1,14 @@
-pub mod Order
-pub mod Changes
+pub mod Nodes
+pub mod Lists
+pub mod Kept
+pub mod Turns
+pub mod Hanging
+pub mod Steps
+pub mod Raising
+pub mod Reading
+pub mod Splays
+pub mod Entries
+pub mod Arenas
+pub mod Changing
+pub mod Entering
+pub mod Tables

@@ -1,15 +1,14 @@
 -- Live objects in order of their addresses. An object has the addresses of its bytes and the one past
 -- its end (C99 6.5.6), which no other object has (Jones and Kelly, AADEBUG 1997).
-use Rattle.std.specs.Prelude.{◌≡◌, ◌≢◌, ℕ, ◌+◌, ◌<◌, ◌≤◌, ◌⊎◌, List, length, slice_index_or, Option, Some, None}
+use Rattle.std.specs.Prelude.{ℕ, ◌+◌, ◌<◌, ◌⊎◌, List, Option}
 use Rattle.std.specs.List.{AllPairs}
-use Rattle.std.specs.Global.{Vec}
-use Rattle.std.specs.Vec.{vec_capacity}
 use Rattle.ob_model.specs.declared.objects.Entry.{Entry}
 
--- the entries, and how many may stand at a time
+-- the entries, how many may stand at a time, and which of them stands at the root
 pub record Objects : Type 0 where
   pub most : ℕ
   pub entries : List Entry
+  pub root : Option Entry
 
 -- each address of e is below each of f
 abbrev pub Precedes : Entry → Entry → Type 0
@@ -22,20 +21,3 @@ AreApart e f = Precedes e f ⊎ Precedes f e
 -- in order of their bases, and no two meet
 abbrev pub IsInOrder : List Entry → Type 0
 IsInOrder entries = AllPairs Precedes entries
-
--- the first `at` entries are those whose base is at most the address
-pub record Splits (entries : List Entry) (address at : ℕ) : Type 0 where
-  pub within : at ≤ length entries
-  pub before : (k : ℕ) (d : Entry) → k < at → (slice_index_or entries k d).base ≤ address
-  pub after : (k : ℕ) (d : Entry) → at ≤ k → k < length entries → address < (slice_index_or entries k d).base
-
--- the entry at a base stands at this index, or at none
-abbrev pub IsIndexOf : List Entry → ℕ → Option ℕ → Type 0
-IsIndexOf entries base None = (k : ℕ) (d : Entry) → k < length entries → (slice_index_or entries k d).base ≢ base
-IsIndexOf entries base (Some i) = (i < length entries) × ((d : Entry) → (slice_index_or entries i d).base ≡ base)
-
--- what a table keeps
-pub record IsKept (most : ℕ) (entries : Vec Entry) : Type 0 where
-  pub in_order : IsInOrder entries.items
-  pub few : length entries.items ≤ most
-  pub fit : most ≤ vec_capacity entries

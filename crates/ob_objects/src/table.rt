@@ -1,30 +1,46 @@
-ghost use Rattle.std.specs.Prelude.{◌≡◌, ◌+◌, ◌<◌, ◌≤◌, ◌^◌, [], length, IfOk};
+ghost use Rattle.std.specs.Prelude.{◌≡◌, ◌+◌, ◌<◌, ◌≤◌, ◌^◌, ◌↔◌, [], Some, None, length, IfOk, IfSome, IsNone};
 ghost use Rattle.std.specs.List.{All};
 ghost use Rattle.ob_model.specs.Entries.{entry_at, at_base, with_entry, without_base};
 ghost use Rattle.ob_objects.specs.Objects.{AreApart, IsInOrder};
 
-use crate::search::{count_up_to, index_of, named};
+use crate::arena::{look_up, open, put_node, take_out};
+use crate::node::Node;
 use ob_base::NoMemory;
-use ob_model::Entry;
+use ob_model::{Entry, Sort};
 use std::alloc::Global;
 use std::marker::Model;
+
+/// The node at which the parts of a splay hang; its entry is never read.
+const HEADER: Node = Node {
+    entry: Entry {
+        base: 0,
+        size: 0,
+        object: 0,
+        sort: Sort::Static,
+    },
+    less: 0,
+    more: 0,
+};
 
 /// The live objects, in order of their bases, and how many may stand at a time. No address lies in two
 /// of them, where an object has the address past its end as well.
 #[derive(Drop)]
 pub struct ObjectTable {
     most: usize,
-    entries: Vec<Entry>,
+    nodes: Vec<Node>,
+    root: u32,
+    free: u32,
 }
 
 impl Model for ObjectTable {
-    ghost use Rattle.ob_objects.specs.Objects.{Objects, IsKept};
+    ghost use Rattle.ob_objects.specs.Objects.{Objects};
+    ghost use Rattle.ob_objects.specs.Arena.{objects, IsKept};
 
     ghost Value = { Objects };
 
-    ghost view = { λ t. record { most = t.most; entries = t.entries.items } };
+    ghost view = { λ t. objects t.most t.nodes.items t.root };
 
-    ghost invariant = { λ t. IsKept t.most t.entries };
+    ghost invariant = { λ t. IsKept t.most t.nodes t.root t.free };
 }
 
 impl ObjectTable {
@@ -35,9 +51,13 @@ impl ObjectTable {
         ensures most { IfOk result (λ table. table.most ≡ most) }
         ensures empty { IfOk result (λ table. table.entries ≡ []) }
     {
+        let mut nodes = Vec::with_capacity(alloc, most + 1)?;
+        nodes.push_reserved(HEADER);
         Ok(ObjectTable {
             most,
-            entries: Vec::with_capacity(alloc, most)?,
+            nodes,
+            root: 0,
+            free: 0,
         })
     }
 
@@ -50,8 +70,8 @@ impl ObjectTable {
         ensures entries { self.new.entries ≡ with_entry e self.old.entries }
         ensures most { self.new.most ≡ self.old.most }
     {
-        let count = count_up_to(self.entries.as_slice(), e.base);
-        let _ = self.entries.insert(count, e);
+        let node = open(self.nodes.as_mut_slice(), self.root, e);
+        self.root = put_node(&mut self.nodes, &mut self.free, node);
     }
 
     /// Takes out the entry at `base` and gives it; `None` exactly where no entry has that base, and then
@@ -61,19 +81,36 @@ impl ObjectTable {
         ensures others { self.new.entries ≡ without_base base self.old.entries }
         ensures most { self.new.most ≡ self.old.most }
     {
-        let index = index_of(self.entries.as_slice(), base)?;
-        Some(self.entries.remove(index))
+        let taken = take_out(self.nodes.as_mut_slice(), self.root, self.free, base);
+        self.root = taken.root;
+        self.free = taken.free;
+        taken.entry
     }
 
     /// The one entry with `base <= address <= base + size`; `None` exactly where there is none. The
     /// entries stay.
     pub fn find(&mut self, address: u64) -> Option<Entry>
         ensures entry { result ≡ entry_at address self.old.entries }
+        ensures root { IfSome result (λ e. self.new.root ≡ Some e) }
         ensures kept { self.new.entries ≡ self.old.entries }
         ensures most { self.new.most ≡ self.old.most }
         ensures in_order { IsInOrder self.new.entries }
     {
-        named(self.entries.as_slice(), address)
+        let (root, entry) = look_up(self.nodes.as_mut_slice(), self.root, address);
+        self.root = root;
+        entry
+    }
+
+    /// The entry at the root of the tree: the one that the last `find` gave, where it gave one and the
+    /// entries stayed since then. `None` exactly where the table has no entry.
+    pub fn root(&self) -> Option<Entry>
+        ensures root { result ≡ self.now.root }
+        ensures none { IsNone result ↔ (self.now.entries ≡ []) }
+    {
+        if self.root == 0 {
+            return None;
+        }
+        Some(self.nodes[self.root as usize].entry)
     }
 
     /// Takes out all entries, which gives the state that `new` gave, in the memory that the table has.
@@ -81,6 +118,8 @@ impl ObjectTable {
         ensures empty { self.new.entries ≡ [] }
         ensures most { self.new.most ≡ self.old.most }
     {
-        self.entries.clear();
+        self.nodes.truncate(1);
+        self.root = 0;
+        self.free = 0;
     }
 }

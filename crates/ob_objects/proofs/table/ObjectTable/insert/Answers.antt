@@ -1,12 +1,28 @@
-use Rattle.std.proofs.Common.{◌≡◌, arith, ◌∙◌}
-use Rattle.std.specs.Prelude.{insert}
-use Rattle.std.proofs.lemmas.Grind.{common_steps}
-use Rattle.ob_objects.specs.Objects.{Splits}
-use Rattle.ob_objects.proofs.Changes.{with_entry-insert}
+use Rattle.ob_objects.proofs.Tables.{open_needs, put_free, put_room, insert_keeps, insert_enters}
 use Rattle.ob_objects.proofs.table.ObjectTable.insert.Goals as goal
+
+pub open-node-requires : goal.open-node-requires
+open-node-requires c =
+    open_needs c.args.e c.self.inside.most c.self.inside.nodes c.as_mut_slice.result.now c.self.inside.root c.self.inside.free c.args.self.now c.self.invariant c.self.view_is c.as_mut_slice.ensures.value c.requires.apart c.requires.room
+
+pub put_node-self-inside-requires-clause-free : goal.put_node-self-inside-requires-clause-free
+put_node-self-inside-requires-clause-free c =
+    put_free c.args.e c.self.inside.most c.self.inside.nodes c.as_mut_slice.result.now c.self.inside.root c.self.inside.free c.args.self.now c.self.invariant c.self.view_is c.as_mut_slice.ensures.value c.requires.apart c.requires.room
+    c.open-node.new.nodes c.open-node.result c.open-node.ensures
+
+pub put_node-self-inside-requires-clause-room : goal.put_node-self-inside-requires-clause-room
+put_node-self-inside-requires-clause-room c =
+    put_room c.args.e c.self.inside.most c.self.inside.nodes c.as_mut_slice.result.now c.self.inside.root c.self.inside.free c.args.self.now c.self.invariant c.self.view_is c.as_mut_slice.ensures.value c.requires.apart c.requires.room
+    c.open-node.new.nodes c.open-node.result c.open-node.ensures
+
+pub invariant_of-self : goal.invariant_of-self
+invariant_of-self c =
+    insert_keeps c.args.e c.self.inside.most c.self.inside.nodes c.as_mut_slice.result.now c.self.inside.root c.self.inside.free c.args.self.now c.self.invariant c.self.view_is c.as_mut_slice.ensures.value c.requires.apart c.requires.room
+    c.open-node.new.nodes c.open-node.result c.open-node.ensures
+    c.put_node-self-inside.new.nodes c.put_node-self-inside.result c.put_node-self-inside.new.free c.put_node-self-inside.ensures.nodes c.put_node-self-inside.ensures.place c.put_node-self-inside.ensures.free c.put_node-self-inside.ensures.capacity
 
 pub returns-clause-entries : goal.returns-clause-entries
 returns-clause-entries c =
-    let entered : c.insert.new.self.items ≡ insert c.self.inside.entries.items c.count_up_to-count.result c.args.e = grind (arith, common_steps) in
-    let splits : Splits c.self.inside.entries.items c.args.e.base c.count_up_to-count.result = rw (← c.as_slice.ensures.value) c.count_up_to-count.ensures in
-    rw (← c.self.view_is) (entered ∙ with_entry-insert c.args.e c.self.inside.entries.items c.count_up_to-count.result splits.within splits.before splits.after)
+    insert_enters c.args.e c.self.inside.most c.self.inside.nodes c.as_mut_slice.result.now c.self.inside.root c.self.inside.free c.args.self.now c.self.invariant c.self.view_is c.as_mut_slice.ensures.value c.requires.apart c.requires.room
+    c.open-node.new.nodes c.open-node.result c.open-node.ensures
+    c.put_node-self-inside.new.nodes c.put_node-self-inside.result c.put_node-self-inside.new.free c.put_node-self-inside.ensures.nodes c.put_node-self-inside.ensures.place c.put_node-self-inside.ensures.free c.put_node-self-inside.ensures.capacity

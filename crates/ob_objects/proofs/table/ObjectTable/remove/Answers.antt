@@ -1,37 +1,38 @@
-use Rattle.std.proofs.Common.{◌≡◌, List, get_or, Some, ap, sym, ◌∙◌}
-use Rattle.std.specs.Prelude.{remove}
-use Rattle.std.proofs.lemmas.List.{get_or_default}
-use Rattle.ob_model.specs.Entries.{without_base}
-use Rattle.ob_model.specs.declared.objects.Entry.{Entry}
-use Rattle.ob_objects.specs.Objects.{IsInOrder}
-use Rattle.ob_objects.proofs.Order.{no_entry}
-use Rattle.ob_objects.proofs.Changes.{at_base-none, at_base-found, without_base-none, without_base-remove, one_base}
+use Rattle.std.proofs.Common.{◌≡◌, length, ap, ◌∙◌}
+use Rattle.ob_model.specs.Entries.{at_base, without_base}
+use Rattle.ob_objects.specs.Trees.{walk}
+use Rattle.ob_objects.specs.Arena.{IsTaken}
+use Rattle.ob_objects.proofs.Tables.{arena_in, kept_with, seen_with, seen_entries}
 use Rattle.ob_objects.proofs.table.ObjectTable.remove.Goals as goal
 
-pub returns-in_err-index-clause-entry : goal.returns-in_err-index-clause-entry
-returns-in_err-index-clause-entry c =
-    rw (← c.self.view_is, ← c.as_slice.ensures.value) (c.from_residual.ensures ∙ sym (at_base-none c.as_slice.result.now c.args.base no_entry c.in_err-index.ensures))
+pub take_out-taken-requires : goal.take_out-taken-requires
+take_out-taken-requires c = (
+  c.self.invariant.tree,
+  c.self.invariant.frees,
+  arena_in c.self.inside.most c.self.inside.nodes c.as_mut_slice.result.now c.self.inside.root c.self.inside.free c.self.invariant c.as_mut_slice.ensures.value,
+)
 
-pub returns-in_err-index-clause-others : goal.returns-in_err-index-clause-others
-returns-in_err-index-clause-others c =
-    rw (← c.self.view_is, ← c.as_slice.ensures.value) (sym (without_base-none c.args.base c.as_slice.result.now c.in_err-index.ensures))
+pub invariant_of-self : goal.invariant_of-self
+invariant_of-self c =
+    let taken : IsTaken c.args.base c.as_mut_slice.result.now c.take_out-taken.new.nodes c.take_out-taken.result.root c.take_out-taken.result.free c.take_out-taken.result.entry c.self.invariant.tree =
+    c.take_out-taken.ensures c.self.invariant.tree c.self.invariant.frees
+    (arena_in c.self.inside.most c.self.inside.nodes c.as_mut_slice.result.now c.self.inside.root c.self.inside.free c.self.invariant c.as_mut_slice.ensures.value) in
+    let size : length c.take_out-taken.new.nodes ≡ length c.self.inside.nodes.items = taken.size ∙ ap length c.as_mut_slice.ensures.value in
+    kept_with c.self.inside.most c.self.inside.nodes c.take_out-taken.new.nodes c.self.inside.root c.self.inside.free c.take_out-taken.result.root c.take_out-taken.result.free taken.to taken.frees c.self.invariant size taken.arena
 
 pub returns-clause-entry : goal.returns-clause-entry
 returns-clause-entry c =
-    let in_order : IsInOrder c.as_slice.result.now = rw c.as_slice.ensures.value c.self.invariant.in_order in
-    let taken : c.remove.result ≡ get_or c.as_slice.result.now c.in_ok-index.index no_entry =
-    c.remove.ensures.value
-    ∙ get_or_default c.self.inside.entries.items c.in_ok-index.index c.remove.result no_entry (rw (← c.as_slice.ensures.value) c.in_ok-index.ensures.0)
-    ∙ ap (λ (xs : List Entry). get_or xs c.in_ok-index.index no_entry) (sym c.as_slice.ensures.value) in
-    rw (← c.self.view_is, ← c.as_slice.ensures.value)
-    (ap Some taken ∙ sym (at_base-found c.as_slice.result.now c.in_ok-index.index c.args.base no_entry in_order c.in_ok-index.ensures.0 c.in_ok-index.ensures.1))
+    let taken : IsTaken c.args.base c.as_mut_slice.result.now c.take_out-taken.new.nodes c.take_out-taken.result.root c.take_out-taken.result.free c.take_out-taken.result.entry c.self.invariant.tree =
+    c.take_out-taken.ensures c.self.invariant.tree c.self.invariant.frees
+    (arena_in c.self.inside.most c.self.inside.nodes c.as_mut_slice.result.now c.self.inside.root c.self.inside.free c.self.invariant c.as_mut_slice.ensures.value) in
+    taken.found ∙ ap (at_base c.args.base) (seen_entries c.self.inside.most c.self.inside.nodes c.self.inside.root c.self.inside.free c.args.self.now c.self.invariant c.self.view_is)
 
 pub returns-clause-others : goal.returns-clause-others
 returns-clause-others c =
-    let in_order : IsInOrder c.as_slice.result.now = rw c.as_slice.ensures.value c.self.invariant.in_order in
-    let removed : c.remove.new.self.items ≡ without_base c.args.base c.as_slice.result.now =
-    c.remove.ensures.items
-    ∙ ap (λ (xs : List Entry). remove xs c.in_ok-index.index) (sym c.as_slice.ensures.value)
-    ∙ sym (without_base-remove c.args.base c.as_slice.result.now c.in_ok-index.index c.in_ok-index.ensures.0 c.in_ok-index.ensures.1
-    (one_base c.as_slice.result.now c.in_ok-index.index c.args.base in_order c.in_ok-index.ensures.0 c.in_ok-index.ensures.1)) in
-    rw (← c.self.view_is, ← c.as_slice.ensures.value) removed
+    let taken : IsTaken c.args.base c.as_mut_slice.result.now c.take_out-taken.new.nodes c.take_out-taken.result.root c.take_out-taken.result.free c.take_out-taken.result.entry c.self.invariant.tree =
+    c.take_out-taken.ensures c.self.invariant.tree c.self.invariant.frees
+    (arena_in c.self.inside.most c.self.inside.nodes c.as_mut_slice.result.now c.self.inside.root c.self.inside.free c.self.invariant c.as_mut_slice.ensures.value) in
+    let size : length c.take_out-taken.new.nodes ≡ length c.self.inside.nodes.items = taken.size ∙ ap length c.as_mut_slice.ensures.value in
+    ap walk (seen_with c.self.inside.nodes c.take_out-taken.new.nodes c.take_out-taken.result.root c.take_out-taken.result.free taken.to taken.frees size taken.arena)
+    ∙ taken.others
+    ∙ ap (without_base c.args.base) (seen_entries c.self.inside.most c.self.inside.nodes c.self.inside.root c.self.inside.free c.args.self.now c.self.invariant c.self.view_is)
