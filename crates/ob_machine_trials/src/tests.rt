@@ -102,7 +102,18 @@ const SETTINGS: RunSettings = RunSettings {
     profile: Profile::One,
 };
 
-// How a run of a fresh machine with this code ends on these devices.
+// How a run ends on these devices; the machine is fresh.
+fn run_fresh(
+    rt: &impl Abort,
+    machine: &mut Machine,
+    input: &mut MemSource,
+    out: &mut MemSink,
+) -> Ending {
+    assert!(rt; machine.is_fresh());
+    machine.run(5_000, input, out)
+}
+
+// How a run of this code ends on these devices.
 fn ending(
     rt: &impl Abort,
     alloc: Global,
@@ -111,31 +122,44 @@ fn ending(
     out: &mut MemSink,
 ) -> Result<Ending, Fail> {
     let mut machine = loaded(rt, alloc, code)?;
-    assert!(rt; machine.is_fresh());
-    Ok(machine.run(5_000, input, out))
+    Ok(run_fresh(rt, &mut machine, input, out))
 }
 
-// Runs twice on devices that move one byte a call, with a fresh machine each time. The second run's input
-// is `ab`, and the read and the write of these numbers fail.
+// The echo of `x`, one byte a call, takes 12 instructions.
+fn echoes(rt: &impl Abort, alloc: Global, machine: &mut Machine) -> Result<(), Fail> {
+    let mut input = MemSource::new(alloc, b"x", &[], 1)?;
+    let mut out = MemSink::new(alloc, 16, &[], 1)?;
+    let came = run_fresh(rt, machine, &mut input, &mut out);
+    assert_eq!(rt; (came, machine.instructions()), (Ending::Ended(0), 12));
+    Ok(())
+}
+
+// How the echo ends on these devices, on a machine that ran before and was reset.
+fn ending_again(
+    rt: &impl Abort,
+    alloc: Global,
+    input: &mut MemSource,
+    out: &mut MemSink,
+) -> Result<Ending, Fail> {
+    let mut machine = loaded(rt, alloc, &ECHO)?;
+    echoes(rt, alloc, &mut machine)?;
+    machine.reset();
+    Ok(run_fresh(rt, &mut machine, input, out))
+}
+
+// The echo of `ab`, on devices that move one byte a call, whose read and write of these numbers fail.
 fn runs(
     rt: &impl Abort,
     alloc: Global,
     read: u64,
     write: u64,
-    ending: Ending,
+    wanted: Ending,
     written: &[u8],
 ) -> Result<(), Fail> {
-    let mut machine = loaded(rt, alloc, &ECHO)?;
-    assert!(rt; machine.is_fresh());
-    let mut input = MemSource::new(alloc, b"x", &[], 1)?;
-    let mut out = MemSink::new(alloc, 16, &[], 1)?;
-    let first = machine.run(100, &mut input, &mut out);
-    assert_eq!(rt; (first, machine.instructions()), (Ending::Ended(0), 12));
-    machine.reset();
     let mut input = MemSource::new(alloc, b"ab", &[read], 1)?;
     let mut out = MemSink::new(alloc, 16, &[write], 1)?;
-    let second = machine.run(100, &mut input, &mut out);
-    assert_eq!(rt; second, ending);
+    let came = ending_again(rt, alloc, &mut input, &mut out)?;
+    assert_eq!(rt; came, wanted);
     assert_eq!(rt; out.taken(), written);
     Ok(())
 }
@@ -150,12 +174,11 @@ fn devices_that_fail(rt: HostRuntime) -> Result<(), Fail> {
 
 // Runs on the input `x`, one byte a call, whose read of this number fails; the program reads past the end
 // twice.
-fn reads_on(rt: &impl Abort, alloc: Global, read: u64, ending: Ending) -> Result<MemSource, Fail> {
-    let mut machine = loaded(rt, alloc, &READ_ON)?;
-    assert!(rt; machine.is_fresh());
+fn reads_on(rt: &impl Abort, alloc: Global, read: u64, wanted: Ending) -> Result<MemSource, Fail> {
     let mut input = MemSource::new(alloc, b"x", &[read], 1)?;
     let mut out = MemSink::new(alloc, 16, &[], 1)?;
-    assert_eq!(rt; machine.run(100, &mut input, &mut out), ending);
+    let came = ending(rt, alloc, &READ_ON, &mut input, &mut out)?;
+    assert_eq!(rt; came, wanted);
     Ok(input)
 }
 
