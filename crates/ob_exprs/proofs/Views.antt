@@ -5,17 +5,18 @@ use Rattle.std.specs.declared.alloc.Global.{Global}
 use Rattle.ob_tree.specs.declared.expressions.Expr.{Expr}
 use Rattle.ob_tree.specs.declared.expressions.ExprNode as from
 use Rattle.ob_tree.specs.declared.expressions.ExprNode.TheBlock as block
-use Rattle.ob_tree.specs.declared.expressions.ExprNode.TheBlock.{Row_of-Expr, end_of-Expr, more_of-Expr, items-the_row-Expr, items_hidden-the_row-Expr-0, Row_of-MemberDecl, end_of-MemberDecl, more_of-MemberDecl, items-the_row-MemberDecl, items_hidden-the_row-MemberDecl-2, Row_of-ObjDecl, end_of-ObjDecl, more_of-ObjDecl, items-the_row-ObjDecl, items_hidden-the_row-ObjDecl-3, Row_of-Dim, end_of-Dim, more_of-Dim, items-the_row-Dim, items_hidden-the_row-Dim-4, Dim-length-None', Dim-length-Some'}
+use Rattle.ob_tree.specs.declared.expressions.ExprNode.TheBlock.{Row_of-Expr, end_of-Expr, more_of-Expr, items-the_row-Expr, items_hidden-the_row-Expr-0, Row_of-MemberDecl, end_of-MemberDecl, more_of-MemberDecl, items-the_row-MemberDecl, items_hidden-the_row-MemberDecl-2, Row_of-ObjDecl, end_of-ObjDecl, more_of-ObjDecl, items-the_row-ObjDecl, items_hidden-the_row-ObjDecl-3}
 use Rattle.ob_tree.specs.declared.expressions.Spec.{Spec}
 use Rattle.ob_tree.specs.declared.expressions.SpecNode as spec
 use Rattle.ob_tree.specs.declared.expressions.MemberDecl.{MemberDecl, MemberDecl', roll-MemberDecl, out-roll-MemberDecl, is-MemberDecl'}
-use Rattle.ob_tree.specs.declared.expressions.ObjDecl.{ObjDecl, roll-ObjDecl, out-roll-ObjDecl, is-ObjDecl'}
-use Rattle.ob_tree.specs.declared.expressions.Dim.{Dim, Dim', roll-Dim, out-roll-Dim, is-Dim'}
+use Rattle.ob_tree.specs.declared.expressions.ObjDecl.{ObjDecl}
+use Rattle.ob_tree.specs.declared.expressions.Dim.{Dim, roll-Dim}
 use Rattle.ob_tree.specs.declared.expressions.TypeName.{TypeName', roll-TypeName, out-roll-TypeName, is-TypeName'}
-use Rattle.ob_tree.specs.Trees.{ExprTree, ExprTrees, TypeTree, SpecTree, MemberTrees, ObjTree, ObjTrees, DimTrees}
+use Rattle.ob_tree.specs.Trees.{ExprTree, ExprTrees, TypeTree, SpecTree, MemberTrees, ObjTrees}
 use Rattle.ob_tree.specs.Paths.{height, height_arguments, height_spec, height_members, height_objs, height_obj, height_dims}
-use Rattle.ob_tree.specs.ExpressionView.{marked, expr_tree, node_tree, argument_row, spec_tree, spec_node_tree, type_tree, member_row, obj_row, obj_tree, obj_trees, held_init, dim_row, dim_trees}
-use Rattle.ob_tree.specs.ExprStates.{add_argument, add_dim, add_obj, add_member}
+use Rattle.ob_tree.specs.ExpressionView.{marked, expr_tree, node_tree, argument_row, spec_tree, spec_node_tree, type_tree, member_row, obj_row, obj_tree, obj_trees, dim_trees}
+use Rattle.ob_tree.specs.ExprStates.{add_argument, add_member}
+use Rattle.ob_tree.proofs.Views.{dims-of, dims_pushed, objs_pushed}
 use Rattle.ob_exprs.specs.Lists.{argument_trees, member_trees}
 use Rattle.ob_exprs.specs.DeepestPaths.{count}
 use Rattle.ob_exprs.proofs.Heights.{arguments-height, dims-height, dims-count, objs-height, members-height}
@@ -28,14 +29,6 @@ pub call_tree : (f a l : ℕ) (name : List ℕ) (es : Vec Expr Global)
     → node_tree (from.Call name es) f a l ≡ ExprTree.Call (marked f a l) name (argument_trees es.items)
 call_tree f a l name es =
     ap (ExprTree.Call (marked f a l) name) (row-arguments _ (block.hidden-the_row-Expr-0 es) ∙ ap argument_trees (items_hidden-the_row-Expr-0 es))
-
-row-dims : (n : _) (row : Row_of-Dim n) → dim_row row ≡ dim_trees (items-the_row-Dim n row)
-row-dims n end_of-Dim = refl
-row-dims n (more_of-Dim (Dim' Dim-length-None') ds) = ap DimTrees.Unsized (row-dims _ ds)
-row-dims n (more_of-Dim (Dim' (Dim-length-Some' f a l e)) ds) = ap (DimTrees.Sized (node_tree e f a l)) (row-dims _ ds)
-
-dims-of : (ds : Vec Dim Global) → dim_row (block.hidden-the_row-Dim-4 ds) ≡ dim_trees ds.items
-dims-of ds = row-dims _ (block.hidden-the_row-Dim-4 ds) ∙ ap dim_trees (items_hidden-the_row-Dim-4 ds)
 
 row-objs : (n : _) (row : Row_of-ObjDecl n) → obj_row row ≡ obj_trees (items-the_row-ObjDecl n row)
 row-objs n end_of-ObjDecl = refl
@@ -60,23 +53,7 @@ type_made s n ds =
     ∙ ap (λ r. type_tree (TypeName' r.spec.first r.spec.node r.stars (block.shape-the_row-Dim-4 r.dims) (block.hidden-the_row-Dim-4 r.dims))) (out-roll-TypeName (record { spec = s; stars = n; dims = ds }))
     ∙ ap (TypeTree.TypeName (spec_tree s) n) (dims-of ds)
 
-pub obj_made : (n : ℕ) (name : List ℕ) (a : ℕ) (ds : Vec Dim Global)
-    → obj_tree (roll-ObjDecl (record { stars = n; name = name; at = a; dims = ds; init = None })) ≡ ObjTree.Bare n name a (dim_trees ds.items)
-obj_made n name a ds =
-    let o = roll-ObjDecl (record { stars = n; name = name; at = a; dims = ds; init = None }) in
-    ap obj_tree (is-ObjDecl' o)
-    ∙ ap (λ r. held_init r.stars r.name r.at (dim_row (block.hidden-the_row-Dim-4 r.dims)) (block.back-ObjDecl-init r.init)) (out-roll-ObjDecl (record { stars = n; name = name; at = a; dims = ds; init = None }))
-    ∙ ap (ObjTree.Bare n name a) (dims-of ds)
-
 -- one item more
-one-dim : (e : Expr) → roll-Dim (record { length = Some e }) ≡ Dim' (Dim-length-Some' e.first e.at e.line e.node)
-one-dim e = is-Dim' (roll-Dim (record { length = Some e })) ∙ ap (λ r. Dim' (block.back-Dim-length r.length)) (out-roll-Dim (record { length = Some e }))
-
-pub dims_pushed : (ds : List Dim) (e : Expr) → dim_trees (ds ++ roll-Dim (record { length = Some e }) ∷ []) ≡ add_dim (dim_trees ds) (expr_tree e)
-dims_pushed [] e = ap (λ d. dim_trees (d ∷ [])) (one-dim e)
-dims_pushed (Dim' Dim-length-None' ∷ ds) e = ap DimTrees.Unsized (dims_pushed ds e)
-dims_pushed (Dim' (Dim-length-Some' f a l x) ∷ ds) e = ap (DimTrees.Sized (node_tree x f a l)) (dims_pushed ds e)
-
 pub dims_pushed_height : (ds : List Dim) (e : Expr) → height_dims (dim_trees (ds ++ roll-Dim (record { length = Some e }) ∷ [])) ≡ max (height_dims (dim_trees ds)) (count (dim_trees ds) + (1 + height (expr_tree e)))
 dims_pushed_height ds e = ap height_dims (dims_pushed ds e) ∙ dims-height (dim_trees ds) (expr_tree e)
 
@@ -89,10 +66,6 @@ arguments_pushed (x ∷ es) e = ap (ExprTrees.Argument (expr_tree x)) (arguments
 
 pub arguments_pushed_height : (es : List Expr) (e : Expr) → height_arguments (argument_trees (es ++ e ∷ [])) ≡ max (height_arguments (argument_trees es)) (height (expr_tree e))
 arguments_pushed_height es e = ap height_arguments (arguments_pushed es e) ∙ arguments-height (argument_trees es) (expr_tree e)
-
-pub objs_pushed : (os : List ObjDecl) (o : ObjDecl) → obj_trees (os ++ o ∷ []) ≡ add_obj (obj_trees os) (obj_tree o)
-objs_pushed [] o = refl
-objs_pushed (x ∷ os) o = ap (ObjTrees.Declarator (obj_tree x)) (objs_pushed os o)
 
 pub objs_pushed_height : (os : List ObjDecl) (o : ObjDecl) → height_objs (obj_trees (os ++ o ∷ [])) ≡ max (height_objs (obj_trees os)) (height_obj (obj_tree o))
 objs_pushed_height os o = ap height_objs (objs_pushed os o) ∙ objs-height (obj_trees os) (obj_tree o)

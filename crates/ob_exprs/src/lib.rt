@@ -15,8 +15,7 @@
 //! The other specs serve the proof. `DeepestPaths` counts the nodes on the paths that have begun;
 //! with it, these lemma files are the crate's laws, for the crates above: `Heights`, `Begun`, `Within`,
 //! `Shapes`, `Adding`, `Kept`, `Sound`, `SoundAfter`, `SoundSpecs`, `Filling`, `Fills`, `Complete`,
-//! `Reach`, `States`, `Exact` (the machine reads what the grammar spells, and no more) and `Views`
-//! (trees that are built from lists).
+//! `Reach`, `States` and `Exact`: the machine reads what the grammar spells, and no more.
 #![tactic(auto)]
 
 pub use level::Level;

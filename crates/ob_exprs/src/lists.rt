@@ -61,7 +61,7 @@ pub fn no_dims(alloc: Global) -> Dims
 }
 
 /// The brackets with one pair more, round this length, and what the caller goes on with.
-#[tactic(auto, using(crate::proofs::Views::dims_pushed, crate::proofs::Views::dims_pushed_height, crate::proofs::Views::dims_pushed_count))]
+#[tactic(auto, using(ob_tree::proofs::Views::dims_pushed, crate::proofs::Views::dims_pushed_height, crate::proofs::Views::dims_pushed_count))]
 pub fn add_dim<K: Drop>(dims: Dims, length: Operand, kept: K) -> Result<(Dims, K), NoMemory>
     requires low { height_of (expr_tree length.expr.value) < 1000 }
     requires few { count_of (dim_trees dims.items.items) < 1000 }
@@ -95,7 +95,7 @@ pub fn no_names(alloc: Global) -> Names
 }
 
 /// A declarator without an initialiser.
-#[tactic(auto, using(crate::proofs::Views::obj_made))]
+#[tactic(auto, using(ob_tree::proofs::Views::obj_made))]
 pub fn declarator(stars: u32, name: Text, at: u32, dims: Dims) -> MeasuredDeclarator
     requires low { height_dims (dim_trees dims.items.items) < 1000 }
     requires few { stars < 1000 }
@@ -114,7 +114,7 @@ pub fn declarator(stars: u32, name: Text, at: u32, dims: Dims) -> MeasuredDeclar
 }
 
 /// The names with one more, and what the caller goes on with.
-#[tactic(auto, using(crate::proofs::Views::objs_pushed, crate::proofs::Views::objs_pushed_height))]
+#[tactic(auto, using(ob_tree::proofs::Views::objs_pushed, crate::proofs::Views::objs_pushed_height))]
 pub fn add_name<K: Drop>(
     names: Names,
     name: MeasuredDeclarator,

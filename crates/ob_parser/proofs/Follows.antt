@@ -30,7 +30,8 @@ use Rattle.ob_exprs.specs.Parsed.{IsExprVerdict, IsSpecVerdict}
 use Rattle.ob_exprs.specs.ReadTokens as exprs
 use Rattle.ob_parser.specs.Answer.{Answer, IsAnswer, IsProgramVerdict}
 use Rattle.ob_parser.specs.DeepestPaths.{spec_depth, spec_path, context_depth, context_path, deepest_path}
-use Rattle.ob_parser.specs.ReadTokens.{reading, Kept, Reached, Behind, After, AwaitsExpr, begins_spec, AwaitsSpec}
+use Rattle.ob_declarations.specs.Statements.{begins_type}
+use Rattle.ob_parser.specs.ReadTokens.{reading, Kept, Reached, Behind, After, AwaitsExpr, AwaitsSpec}
 use Rattle.ob_parser.proofs.SoundContexts.{use-low}
 use Rattle.ob_parser.proofs.OneAnswer.{stopped, no-tree, too-deep}
 use Rattle.ob_parser.proofs.Light.{Light, IsBetween, shift-light, used-light, specified-light, use-deep}
@@ -113,7 +114,7 @@ word-agrees : (p : ℕ) (w : Keyword) → Agrees (reader.is_spec_word w) (reader
 word-agrees p word.Void = tt
 word-agrees p w = tt
 
-spec-agrees : (p : ℕ) (k : TokenKind) → Agrees (begins_spec k) (reader.specifier p k [])
+spec-agrees : (p : ℕ) (k : TokenKind) → Agrees (begins_type k) (reader.specifier p k [])
 spec-agrees p (kind.Word w) = word-agrees p w
 spec-agrees p k = tt
 
@@ -320,7 +321,7 @@ module _ (ts : List Token) (all : All (λ t. IsOfSource t.kind) ts) where
       shallow = λ h v x.
           after-spec u e v x (one-spec ts i (spec_depth u) v (of_spec ts (spec_depth u) i) x (spec-verdict ts i (spec_depth u) all (omega (arith, a.below)) h));
       deep = λ h x n.
-          subst (λ (z : Token). IsAnswer ts (cond (begins_spec z.kind) (Answer.TooDeep i) (Answer.NoTree i))) (same-token x n g)
-          (deep-answer u (reader.shift 17 (here (lines ts) i) t.kind (reader.Specifier [])) (begins_spec t.kind) (spec-agrees i t.kind) h
+          subst (λ (z : Token). IsAnswer ts (cond (begins_type z.kind) (Answer.TooDeep i) (Answer.NoTree i))) (same-token x n g)
+          (deep-answer u (reader.shift 17 (here (lines ts) i) t.kind (reader.Specifier [])) (begins_type t.kind) (spec-agrees i t.kind) h
           (subst (λ o. IsProgramVerdict ts (verdict finish (turn deepest_path 0 i s (λ x. reading ts (i + 1) x) o))) e whole_verdict));
     }

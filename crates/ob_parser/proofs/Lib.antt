@@ -21,8 +21,4 @@ pub mod NewestPath
 pub mod Verdicts
 pub mod Follows
 pub mod Loop
-pub mod Pushed
-pub mod Turns
-pub mod Blocks
-pub mod LeftOut
 pub mod Stars

@@ -25,16 +25,16 @@ use Rattle.ob_tree.specs.ProgramStates as plain
 use Rattle.ob_tree.specs.ProgramStates.{SpecContext, ExprContext}
 use Rattle.ob_tree.specs.ProgramMachine.{context_level, used, specified, shift, finish}
 use Rattle.ob_exprs.specs.Parsed.{IsExprVerdict, ParsedExpr, IsSpecVerdict, ParsedSpec}
-use Rattle.ob_parser.specs.declared.state.State.{State}
-use Rattle.ob_parser.specs.declared.state.State.TheVariants as state
-use Rattle.ob_parser.specs.declared.state.Shift.{Shift}
-use Rattle.ob_parser.specs.declared.state.Shift.TheVariants as shifted_to
-use Rattle.ob_parser.specs.declared.state.ExprContext.{ExprContext as CodeContext}
-use Rattle.ob_parser.specs.declared.state.SpecContext.{SpecContext as CodeSpecUse}
+use Rattle.ob_declarations.specs.declared.state.State.{State}
+use Rattle.ob_declarations.specs.declared.state.State.TheVariants as state
+use Rattle.ob_declarations.specs.declared.state.Shift.{Shift}
+use Rattle.ob_declarations.specs.declared.state.Shift.TheVariants as shifted_to
+use Rattle.ob_declarations.specs.declared.state.ExprContext.{ExprContext as CodeContext}
+use Rattle.ob_declarations.specs.declared.state.SpecContext.{SpecContext as CodeSpecUse}
 use Rattle.ob_parser.specs.Answer.{Answer, IsAnswer, IsProgramVerdict, ParsedProgram}
 use Rattle.ob_parser.specs.DeepestPaths.{spec_depth, context_depth, deepest_path}
-use Rattle.ob_parser.specs.Shifts.{Leads, Reaches, state_of}
-use Rattle.ob_parser.specs.View.{spec_context_of, expr_context_of}
+use Rattle.ob_declarations.specs.Shifts.{Leads, Reaches, state_of}
+use Rattle.ob_declarations.specs.View.{spec_context_of, expr_context_of}
 use Rattle.ob_parser.specs.ReadTokens.{Kept, Behind, Ends, After, AwaitsExpr, AwaitsSpec, IsRightFault, Turned}
 use Rattle.ob_parser.proofs.OneAnswer.{first-right, parsed, no-tree}
 use Rattle.ob_parser.proofs.Light.{IsBetween}

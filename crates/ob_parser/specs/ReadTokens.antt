@@ -1,24 +1,23 @@
 -- What holds while a program is read token by token.
-use Rattle.std.specs.Prelude.{◌≡◌, ℕ, ◌+◌, ◌<◌, ◌≤◌, min, List, length, map, drop, slice_get, Bool, false, cond, Option, Some, None, Result, Ok, Err}
+use Rattle.std.specs.Prelude.{◌≡◌, ℕ, ◌+◌, ◌<◌, ◌≤◌, min, List, length, map, drop, slice_get, cond, Option, Some, None, Result, Ok, Err}
 use Rattle.ob_tree.specs.declared.faults.SyntaxFault.{SyntaxFault}
 use Rattle.ob_tree.specs.declared.faults.SyntaxFault.TheVariants as fault
 use Rattle.ob_tree.specs.declared.tokens.Token.{Token}
 use Rattle.ob_tree.specs.declared.tokens.TokenKind.{TokenKind}
-use Rattle.ob_tree.specs.declared.tokens.TokenKind.TheVariants as kind
 use Rattle.ob_tree.specs.Trees.{ExprTree, SpecTree}
 use Rattle.ob_tree.specs.Places.{here}
 use Rattle.ob_tree.specs.Fronts.{lines}
 use Rattle.ob_tree.specs.Verdicts.{Verdict, Whole, NoTree, TooDeep}
-use Rattle.ob_tree.specs.ExprMachine.{is_spec_word}
 use Rattle.ob_tree.specs.ProgramStates as plain
 use Rattle.ob_tree.specs.ProgramStates.{SpecContext, ExprContext}
 use Rattle.ob_tree.specs.ProgramMachine.{shift, finish, context_level, used, specified}
 use Rattle.ob_tree.specs.Readings as machine
 use Rattle.ob_exprs.specs.Parsed.{IsExprVerdict, IsSpecVerdict}
-use Rattle.ob_parser.specs.declared.state.State.{State}
+use Rattle.ob_declarations.specs.declared.state.State.{State}
 use Rattle.ob_parser.specs.Answer.{Answer, IsAnswer, IsProgramVerdict}
 use Rattle.ob_parser.specs.DeepestPaths.{spec_depth, context_depth, deepest_path, newest_path}
-use Rattle.ob_parser.specs.Shifts.{state_of}
+use Rattle.ob_declarations.specs.Shifts.{state_of}
+use Rattle.ob_declarations.specs.Statements.{begins_type}
 
 -- what the machine reads that holds this at place i
 abbrev pub reading : List Token → (i : ℕ) → plain.State → machine.Reading plain.State
@@ -55,15 +54,10 @@ After ts from next (TooDeep i) = IsAnswer ts (Answer.TooDeep i)
 abbrev pub AwaitsExpr : List Token → (i : ℕ) → ExprContext → Type 0
 AwaitsExpr ts i u = (v : Verdict ExprTree) → IsExprVerdict ts i (min (context_depth u) 256) (context_level u) v → After ts i (λ j e k. used k u (Some e)) v
 
--- whether a specifier begins with a token of this kind
-abbrev pub begins_spec : TokenKind → Bool
-begins_spec (kind.Word word) = is_spec_word word
-begins_spec k = false
-
 -- A specifier for this begins at place i, if any does. Where no node may stand below, one that begins is too deep.
 pub record AwaitsSpec (ts : List Token) (i : ℕ) (u : SpecContext) : Type 0 where
   pub shallow : spec_depth u ≤ 256 → (v : Verdict SpecTree) → IsSpecVerdict ts i (spec_depth u) v → After ts i (λ j s k. specified (here (lines ts) j) k u (Some s)) v
-  pub deep : 256 < spec_depth u → (t : Token) → slice_get ts i ≡ Some t → IsAnswer ts (cond (begins_spec t.kind) (Answer.TooDeep i) (Answer.NoTree i))
+  pub deep : 256 < spec_depth u → (t : Token) → slice_get ts i ≡ Some t → IsAnswer ts (cond (begins_type t.kind) (Answer.TooDeep i) (Answer.NoTree i))
 
 -- the fault is the right answer, or want of memory
 abbrev pub IsRightFault : List Token → SyntaxFault → Type 0

@@ -3,8 +3,8 @@ ghost use Rattle.std.specs.List.{All};
 ghost use Rattle.ob_tree.specs.Valid.{IsOfSource};
 ghost use Rattle.ob_parser.specs.Answer.{ParsedProgram};
 
-use crate::finish::finish;
 use crate::read::read;
+use ob_declarations::finish;
 use ob_tree::{Program, SyntaxFault, Token};
 use std::alloc::Global;
 

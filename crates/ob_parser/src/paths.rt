@@ -2,10 +2,10 @@ ghost use Rattle.std.specs.Prelude.{◌≡◌, ◌-◌, ◌^◌, ◌≤◌, ◌+
 ghost use Rattle.ob_tree.specs.ProgramMachine.{context_level};
 ghost use Rattle.ob_exprs.specs.DeepestPaths.{level_number};
 ghost use Rattle.ob_parser.specs.DeepestPaths.{depth_in, head_rise as head_rise_of, newest_path as newest_path_of, scope_depth as scope_depth_of, spec_depth as spec_depth_of, context_depth as context_depth_of};
-ghost use Rattle.ob_parser.specs.Shifts.{state_of};
-ghost use Rattle.ob_parser.specs.View.{declaration_of, head_of, scope_of, spec_context_of, expr_context_of};
+ghost use Rattle.ob_declarations.specs.Shifts.{state_of};
+ghost use Rattle.ob_declarations.specs.View.{declaration_of, head_of, scope_of, spec_context_of, expr_context_of};
 
-use crate::state::{Declaration, ExprContext, Head, PendingStmt, Scope, SpecContext, State};
+use ob_declarations::{Declaration, ExprContext, Head, PendingStmt, Scope, SpecContext, State};
 use ob_exprs::Level;
 
 // Numbers of nodes that no usize holds count as the greatest one.
@@ -42,8 +42,8 @@ fn head_rise(head: &Head) -> usize
         Head::Name(declarator) => {
             declarator_depth(&declarator.declaration).saturating_add(declarator.stars as usize)
         }
-        Head::Param { listing, stars, .. } => {
-            declarator_depth(&listing.function.declaration).saturating_add(*stars as usize)
+        Head::Param(listing, param) => {
+            declarator_depth(&listing.function.declaration).saturating_add(param.stars as usize)
         }
     }
 }

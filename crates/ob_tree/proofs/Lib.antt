@@ -1,5 +1,6 @@
 pub mod Names
 pub mod Lists
+pub mod Views
 pub mod KeptLayouts
 pub mod KeptRows
 pub mod ProgramRows

@@ -16,8 +16,8 @@
 //! expressions in `FirstTokens`, `IntegerWords`, `Lists`, `PlaceKeeps`, `Runs`, `SignShifts`,
 //! `SpecShifts`, `Through`, `Unreduced` and `OneTree`; on the one for programs in `ProgramRuns`,
 //! `ProgramInits`, `ProgramParams`, `ProgramNames`, `ProgramDeclarations`, `ProgramThrough` and
-//! `OneProgram`; on the answers of both in `RightReadings`; on structures that get more structures and
-//! members in `KeptLayouts`.
+//! `OneProgram`; on the answers of both in `RightReadings`; on trees that are built from lists in
+//! `Views`; on structures that get more structures and members in `KeptLayouts`.
 #![tactic(auto)]
 
 pub use constants::{Base, Suffix};

@@ -2,7 +2,7 @@ use Rattle.std.proofs.Common.{◌≡◌, Err, length, sym, subst, arith}
 use Rattle.std.proofs.lemmas.Result.{err_from_is_err_and}
 use Rattle.ob_tree.specs.declared.faults.SyntaxFault.TheVariants as fault
 use Rattle.ob_parser.specs.Answer.{ParsedProgram}
-use Rattle.ob_parser.specs.Shifts.{state_of}
+use Rattle.ob_declarations.specs.Shifts.{state_of}
 use Rattle.ob_parser.proofs.Loop.{parsed-whole, parsed-open, parsed-fault}
 use Rattle.ob_parser.proofs.parser.parse.Goals as goal
 

@@ -1,7 +1,7 @@
 use Rattle.std.proofs.Common.{◌≡◌, length, sym, subst, arith, rules}
 use Rattle.std.proofs.lemmas.Result.{err_from_is_err_and}
 use Rattle.ob_parser.specs.ReadTokens.{Kept, IsRightFault}
-use Rattle.ob_parser.specs.Shifts.{state_of}
+use Rattle.ob_declarations.specs.Shifts.{state_of}
 use Rattle.ob_parser.proofs.Loop.{at-start}
 use Rattle.ob_parser.proofs.read.read.Goals as goal
 

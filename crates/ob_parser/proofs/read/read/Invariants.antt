@@ -1,6 +1,6 @@
 use Rattle.std.proofs.Common.{◌≤◌, ◌-◌, length}
 use Rattle.ob_parser.specs.ReadTokens.{Kept}
-use Rattle.ob_parser.specs.Shifts.{state_of}
+use Rattle.ob_declarations.specs.Shifts.{state_of}
 use Rattle.ob_parser.proofs.read.read.Given as goal
 
 abbrev pub invariant-loop-place : goal.invariant-loop-place

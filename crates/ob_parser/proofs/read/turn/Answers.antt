@@ -1,5 +1,10 @@
+use Rattle.ob_declarations.specs.Shifts.{state_of}
+use Rattle.ob_parser.proofs.Stars.{few_stars}
 use Rattle.ob_parser.proofs.Loop.{turn-goes, turn-stuck, turn-reads, turn-specifies}
 use Rattle.ob_parser.proofs.read.turn.Goals as goal
+
+pub shift-requires : goal.shift-requires
+shift-requires c = few_stars (state_of c.args.state) c.requires.kept.limit
 
 pub returns-in-Shifted : goal.returns-in-Shifted
 returns-in-Shifted c =

@@ -1,0 +1,4 @@
+pub mod Pushed
+pub mod Turns
+pub mod Blocks
+pub mod LeftOut
