@@ -30,6 +30,7 @@ pub mod MoreFaultExamples
 pub mod SourceExamples
 pub mod TypedExamples
 pub mod RuleExamples
+pub mod RuleFaultExamples
 pub mod SampledTrees
 pub mod MoreSampledTrees
 pub mod LastSampledTrees

@@ -8,6 +8,7 @@ ghost use Rattle.ob_typed.specs.MoreFaultExamples.{list_for_number, called_objec
 ghost use Rattle.ob_typed.specs.SourceExamples.{conversions, elements, lines, recursion, strings};
 ghost use Rattle.ob_typed.specs.TypedExamples.{typed_conversions, typed_elements, typed_lines, typed_recursion, typed_strings};
 ghost use Rattle.ob_typed.specs.RuleExamples.{own_addresses, own_end, past_own_end, own_size, far_parameter, far_parameter_unnamed, freed_pointer, exit_call, typed_own_addresses, typed_own_end, typed_freed_pointer, typed_exit_call};
+ghost use Rattle.ob_typed.specs.RuleFaultExamples.{comma_for_static, null_and_number, structure_as_result, pointers_to_two_structures, tag_in_parameters, tag_in_condition, cast_to_array, hidden_function};
 ghost use Rattle.ob_typed.specs.SampledTrees.{program_one, typed_one, program_two, typed_two, program_three, typed_three, program_four, typed_four, program_five, typed_five, program_six, typed_six, program_seven, typed_seven, program_eight, typed_eight};
 ghost use Rattle.ob_typed.specs.MoreSampledTrees.{program_nine, typed_nine, program_ten, typed_ten, program_eleven, typed_eleven, program_twelve, typed_twelve, program_thirteen, typed_thirteen, program_fourteen, typed_fourteen, program_fifteen, typed_fifteen, program_sixteen, typed_sixteen};
 ghost use Rattle.ob_typed.specs.LastSampledTrees.{program_seventeen, typed_seventeen, program_eighteen, typed_eighteen, program_nineteen, typed_nineteen, program_twenty, typed_twenty, program_twenty_one, typed_twenty_one, program_twenty_two, typed_twenty_two, program_twenty_three, typed_twenty_three};
@@ -74,6 +75,18 @@ pub fn law_own_addresses()
 pub fn law_far_parameters()
     ensures named { FirstTypeFault far_parameter (at kinds.Constant 4) }
     ensures unnamed { FirstTypeFault far_parameter_unnamed (at kinds.Constant 3) }
+{}
+
+/// The first faults of eight programs, each of which shows one rule: what stands beside it.
+pub fn law_rule_faults()
+    ensures comma_for_static { FirstTypeFault comma_for_static (at kinds.Constant 4) }
+    ensures null_and_number { FirstTypeFault null_and_number (at kinds.Constant 4) }
+    ensures structure_as_result { FirstTypeFault structure_as_result (at kinds.Incomplete 7) }
+    ensures pointers_to_two_structures { FirstTypeFault pointers_to_two_structures (at kinds.Operand 16) }
+    ensures tag_in_parameters { FirstTypeFault tag_in_parameters (at kinds.Twice 15) }
+    ensures tag_in_condition { FirstTypeFault tag_in_condition (at kinds.Incomplete 41) }
+    ensures cast_to_array { FirstTypeFault cast_to_array (at kinds.Operand 20) }
+    ensures hidden_function { FirstTypeFault hidden_function (at kinds.NotFunction 15) }
 {}
 
 /// The typed trees of a call of `free`, whose argument changes its type alone, and of one of `exit`.
