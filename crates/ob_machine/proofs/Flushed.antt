@@ -1,10 +1,10 @@
 -- What had been sent before the last read, while a run goes on and where its sink fails.
-use Rattle.std.proofs.Common.{◌≡◌, ◌≢◌, ℕ, ◌≤◌, ◌⊎◌, List, [], ◌∷◌, ◌++◌, length, take, drop, Option, refl, sym, ap, ◌∙◌, subst, arith, append_assoc, inl, inr}
+use Rattle.std.proofs.Common.{◌≡◌, ◌≢◌, ℕ, ◌⊎◌, List, [], ◌∷◌, ◌++◌, take, drop, Option, refl, sym, ap, ◌∙◌, subst, arith, append_assoc, inl, inr}
 use Rattle.std.specs.Io.KnownBytes.{append_known}
 use Rattle.std.proofs.lemmas.List.{append-nil, take-append-drop}
 use Rattle.ob_base.specs.Sink.{Tally, TakesPrefix, tally_known}
 use Rattle.ob_base.proofs.Appending.{append_known-nil, append_known-then, tally_known-nil, tally_known-then}
-use Rattle.ob_model.specs.Endings.{Begins, InputEnd, failed}
+use Rattle.ob_model.specs.Endings.{InputEnd, failed}
 use Rattle.ob_code.specs.State.{Final, Next, State}
 use Rattle.ob_machine.specs.declared.execution.Execution.{Execution}
 use Rattle.ob_machine.specs.Buffers.{SentOrPending}
