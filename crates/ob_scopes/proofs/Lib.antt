@@ -1,0 +1,4 @@
+pub mod Maps
+pub mod Chains
+pub mod Shown
+pub mod Layers
