@@ -68,15 +68,6 @@ behind_it : (e f : Entry) → AreApart e f → e.base ≤ f.base → IsAhead e.b
 behind_it e f apart more = ⊎_elim (λ (p : Precedes e f). omega arith) (λ (p : Precedes f e). absurd (omega arith)) apart
 
 module _ (e : Entry) (old mid : List Node) (at : ℕ) (t : Tree) (split : IsSplit e.base old mid at t) (apart : AllByRecursion (AreApart e) (walk t)) where
-  l : Tree
-  l = split.less
-
-  f : Entry
-  f = split.entry
-
-  r : Tree
-  r = split.more
-
   own : IsNode mid at split.entry (top split.less) (top split.more)
   own = split.rooted.stands.0
 

@@ -1,17 +1,18 @@
 -- The table over its arena.
-use Rattle.std.proofs.Common.{◌≡◌, ℕ, ◌<◌, ◌≤◌, List, [], ◌∷◌, ◌++◌, length, length-append, ap, sym, ◌∙◌, subst, refl, arith}
-use Rattle.std.specs.List.{All, AllByRecursion}
+use Rattle.std.proofs.Common.{◌≡◌, ℕ, ◌<◌, ◌≤◌, List, [], ◌∷◌, ◌++◌, length, get_or, length-append, ap, sym, ◌∙◌, subst, refl, arith}
+use Rattle.std.specs.List.{All, AllByRecursion, Contains}
 use Rattle.std.specs.Global.{Vec}
 use Rattle.std.specs.Vec.{vec_capacity, with_items}
-use Rattle.std.proofs.lemmas.List.{with_items_is}
+use Rattle.std.proofs.lemmas.List.{with_items_is, get_or_default}
 use Rattle.ob_model.specs.declared.objects.Entry.{Entry}
 use Rattle.ob_objects.specs.declared.node.Node.{Node}
 use Rattle.ob_model.specs.Entries.{with_entry}
 use Rattle.ob_objects.specs.Objects.{Objects, AreApart}
 use Rattle.ob_objects.specs.Spread.{IsRooted}
-use Rattle.ob_objects.specs.Trees.{Tree, leaf, fork, top, walk}
+use Rattle.ob_objects.specs.Trees.{Tree, leaf, fork, top, walk, Stands}
+use Rattle.ob_objects.specs.Nodes.{no_node}
 use Rattle.ob_objects.specs.Arena.{IsArena, IsKept, IsOpened, AreFree, tree_of, objects, with_node, place_for, next_free}
-use Rattle.std.proofs.lemmas.List.Elements.{recursion_from_All}
+use Rattle.std.proofs.lemmas.List.Elements.{recursion_from_All, Contains-append_right}
 use Rattle.ob_objects.proofs.Arenas.{arena_rooted}
 use Rattle.ob_objects.proofs.Entries.{with_entry-between}
 use Rattle.ob_objects.proofs.Entering.{IsEntered, entered, more_length}
@@ -44,6 +45,16 @@ seen_with v nodes root free t frees size arena = ap (λ (ns : List Node). tree_o
 pub some_entries : (t : Tree) → 0 < top t → walk t ≡ [] → ⊥
 some_entries leaf some is = omega arith
 some_entries (fork l i e r) some is = let none : length (walk l ++ e ∷ walk r) ≡ 0 = ap length is in omega (arith, length-append (walk l) (e ∷ walk r))
+
+-- the root is one of the entries
+pub root_among : (nodes : List Node) (root : ℕ) (t : Tree) (node : Node) → 0 < root → root ≡ top t → Stands nodes t → node ≡ get_or nodes root node → Contains (walk t) node.entry
+root_among nodes root leaf node some is stands here = absurd (omega arith)
+root_among nodes root (fork l i e r) node some is stands here =
+    let own = stands.0 in
+    let same : node.entry ≡ e =
+    ap (λ (n : Node). n.entry) (here ∙ ap (λ k. get_or nodes k node) is ∙ get_or_default nodes i node no_node own.within) ∙ own.entry in
+    subst (Contains (walk l ++ e ∷ walk r)) (sym same)
+    (Contains-append_right (walk l) (e ∷ walk r) e (0, omega arith, refl))
 
 -- ---- one entry more
 

@@ -1,5 +1,5 @@
 ghost use Rattle.std.specs.Prelude.{◌≡◌, ◌+◌, ◌<◌, ◌≤◌, ◌^◌, ◌↔◌, [], Some, None, length, IfOk, IfSome, IsNone};
-ghost use Rattle.std.specs.List.{All};
+ghost use Rattle.std.specs.List.{All, Contains};
 ghost use Rattle.ob_model.specs.Entries.{entry_at, at_base, with_entry, without_base};
 ghost use Rattle.ob_objects.specs.Objects.{AreApart, IsInOrder};
 
@@ -106,6 +106,7 @@ impl ObjectTable {
     pub fn root(&self) -> Option<Entry>
         ensures root { result ≡ self.now.root }
         ensures none { IsNone result ↔ (self.now.entries ≡ []) }
+        ensures among { IfSome result (Contains self.now.entries) }
     {
         if self.root == 0 {
             return None;
