@@ -1,18 +1,3 @@
-pub mod Files
-pub mod Residue
-pub mod Positions
-pub mod FirstReadings
-pub mod FirstForms
-pub mod OneForm
-pub mod FirstVerified
-pub mod FirstRuns
-pub mod FirstImages
-pub mod Sources
-pub mod Outcomes
-pub mod SomeOutcome
-pub mod Ran
-pub mod Came
-pub mod Clauses
-pub mod Reasons
-pub mod Promises
-pub mod Numbers
+mod Running
+mod Exact
+mod Answering

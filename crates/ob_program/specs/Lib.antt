@@ -1,13 +1,2 @@
-pub mod Status
-pub mod Settings
-pub mod Job
-pub mod FirstForm
-pub mod FirstRun
-pub mod FirstCode
-pub mod FirstReading
-pub mod Sources
-pub mod Lines
-pub mod Run
-pub mod Answer
-pub mod ExecJob
-pub mod ExecAnswer
+pub mod Language
+pub mod Refusals

@@ -8,7 +8,9 @@ mod forms;
 mod images;
 
 use ob_base::{MemFolder, MemSink, MemSource, NoMemory};
+use ob_maker::{Count, Maker, Small, Zero};
 use ob_program::top;
+use ob_watch::{Counter, FirstEvents, Watcher};
 use std::alloc::{AllocError, Global};
 use std::test::Fail;
 
@@ -69,6 +71,18 @@ pub(crate) fn run(
     let mut input = MemSource::new(alloc, b"", &[0], 1)?;
     let mut out = MemSink::new(alloc, ROOM, devices.outs, devices.most)?;
     let mut err = MemSink::new(alloc, ROOM, devices.errs, devices.most)?;
+    let small: Box<dyn Maker> = Box::new(alloc, Small::new())?;
+    let zero: Box<dyn Maker> = Box::new(alloc, Zero::new())?;
+    let count: Box<dyn Maker> = Box::new(alloc, Count::new())?;
+    let mut makers = Vec::new(alloc);
+    makers.push(small)?;
+    makers.push(zero)?;
+    makers.push(count)?;
+    let first: Box<dyn Watcher> = Box::new(alloc, FirstEvents::new(alloc, 16)?)?;
+    let counter: Box<dyn Watcher> = Box::new(alloc, Counter::new())?;
+    let mut watchers = Vec::new(alloc);
+    watchers.push(first)?;
+    watchers.push(counter)?;
     let status = top(
         alloc,
         words(alloc, line)?,
@@ -76,6 +90,8 @@ pub(crate) fn run(
         &mut input,
         &mut out,
         &mut err,
+        makers,
+        watchers,
     );
     Ok(Ran {
         status: status.code(),
@@ -90,26 +106,56 @@ pub(crate) fn run_source(alloc: Global, source: &[u8]) -> Result<Ran, NoMemory> 
     run(alloc, "run c.c", "c.c", source, &sound())
 }
 
-const USAGE: &str = "usage: oblivious run|compile|exec|check|audit|sample ARGUMENT [OPTIONS]\n";
+const USAGE: &str =
+    "usage: oblivious run|compile|exec|check|audit|sample|migrate ARGUMENT [OPTIONS]\n";
+
+/// Rows of words with the output, the error line and the status that they come to.
+const ROWS: [(&str, &str, &str, u8); 21] = [
+    ("run hello.c", "Hi", "", 3),
+    ("run", "", USAGE, 128),
+    ("run hello.c --steps 5 --steps 6", "", USAGE, 128),
+    ("run -hello.c", "", USAGE, 128),
+    ("exec hello.c", "", "oblivious: BadImage Bytes 0\n", 135),
+    ("", "", USAGE, 128),
+    ("run gone.c", "", "oblivious: FileFault\n", 129),
+    ("run hello.c hello.c", "", USAGE, 128),
+    ("run --steps=50 hello.c", "Hi", "", 3),
+    ("run hello.c --steps 0", "", "oblivious: Steps\n", 136),
+    ("run -- hello.c", "Hi", "", 3),
+    (
+        "run hello.c --mode boundless --store 1 --away 0 --heap 0 --maker count --profile 2",
+        "Hi",
+        "",
+        3,
+    ),
+    (
+        "run hello.c --report",
+        "Hi",
+        "watcher 0: 0 events\nwatcher 1: 0 events\n",
+        3,
+    ),
+    (
+        "run hello.c --steps 0 --report",
+        "",
+        "oblivious: Steps\nwatcher 0: 0 events\nwatcher 1: 0 events\n",
+        136,
+    ),
+    ("check hello.c", "", "oblivious: NotYet\n", 145),
+    ("compile gone.c", "", "oblivious: NotYet\n", 145),
+    ("audit hello.c --maker zero", "", "oblivious: NotYet\n", 145),
+    ("sample 3", "", "oblivious: NotYet\n", 145),
+    ("check hello.c --steps 5", "", USAGE, 128),
+    ("help", "", USAGE, 128),
+    ("migrate gone.image", "", "oblivious: FileFault\n", 129),
+];
 
 #[test]
 fn words_that_ask(rt: HostRuntime) -> Result<(), Fail> {
-    let rows: [(&str, &str, &str, u8); 9] = [
-        ("run hello.c", "Hi", "", 3),
-        ("run", "", USAGE, 128),
-        ("run hello.c --steps 5 --steps 6", "", USAGE, 128),
-        ("run -hello.c", "", USAGE, 128),
-        ("exec hello.c", "", "oblivious: BadImage Bytes 0\n", 135),
-        ("", "", USAGE, 128),
-        ("run gone.c", "", "oblivious: FileFault\n", 129),
-        ("run hello.c hello.c", "", USAGE, 128),
-        ("check hello.c", "", USAGE, 128),
-    ];
-    for (line, out, err, status) in rows {
+    for (line, out, err, status) in &ROWS {
         let ran = run(rt.alloc(), line, "hello.c", HELLO, &sound())?;
-        assert_eq!(rt; ran.status, status, "at {line}");
-        assert_eq!(rt; ran.out.as_str(), out, "at {line}");
-        assert_eq!(rt; ran.err.as_str(), err, "at {line}");
+        assert_eq!(rt; ran.status, *status, "at {line}");
+        assert_eq!(rt; ran.out.as_str(), *out, "at {line}");
+        assert_eq!(rt; ran.err.as_str(), *err, "at {line}");
     }
     Ok(())
 }

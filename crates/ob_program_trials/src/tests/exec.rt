@@ -4,7 +4,9 @@ ghost use Rattle.std.specs.Prelude.{◌<◌};
 use crate::tests::images::{CALLS, DIVIDES, ECHO, HEAP, HELLO, OPEN, PLACE, STILL, TICKS, image};
 use crate::tests::{ROOM, text, words};
 use ob_base::{MemFolder, MemSink, MemSource, NoMemory};
+use ob_maker::{Count, Maker, Small, Zero};
 use ob_program::top;
+use ob_watch::{Counter, FirstEvents, Watcher};
 use std::alloc::Global;
 use std::test::Fail;
 
@@ -42,6 +44,18 @@ fn exec(alloc: Global, line: &str, bytes: &[u8], devices: &Devices) -> Result<Ex
     let mut input = MemSource::new(alloc, devices.input, devices.reads, devices.most)?;
     let mut out = MemSink::new(alloc, ROOM, devices.outs, devices.most)?;
     let mut err = MemSink::new(alloc, ROOM, &[], devices.most)?;
+    let small: Box<dyn Maker> = Box::new(alloc, Small::new())?;
+    let zero: Box<dyn Maker> = Box::new(alloc, Zero::new())?;
+    let count: Box<dyn Maker> = Box::new(alloc, Count::new())?;
+    let mut makers = Vec::new(alloc);
+    makers.push(small)?;
+    makers.push(zero)?;
+    makers.push(count)?;
+    let first: Box<dyn Watcher> = Box::new(alloc, FirstEvents::new(alloc, 16)?)?;
+    let counter: Box<dyn Watcher> = Box::new(alloc, Counter::new())?;
+    let mut watchers = Vec::new(alloc);
+    watchers.push(first)?;
+    watchers.push(counter)?;
     let status = top(
         alloc,
         words(alloc, line)?,
@@ -49,6 +63,8 @@ fn exec(alloc: Global, line: &str, bytes: &[u8], devices: &Devices) -> Result<Ex
         &mut input,
         &mut out,
         &mut err,
+        makers,
+        watchers,
     );
     Ok(Executed {
         status: status.code(),
@@ -170,5 +186,56 @@ fn slow_and_failing_devices(rt: HostRuntime) -> Result<(), Fail> {
     let written = exec(alloc, "exec an.image", &bytes, &devices)?;
     assert_eq!(rt; (written.status, written.out.as_str()), (143, "ech"));
     assert_eq!(rt; written.err.as_str(), "");
+    Ok(())
+}
+
+/// An image is written anew in version 2: its version, its profile and an empty list of names are what is
+/// added, and it runs as before.
+#[test]
+fn migrated(rt: HostRuntime) -> Result<(), Fail> {
+    let alloc = rt.alloc();
+    let bytes = image(alloc, &HELLO)?;
+    let mut folder = MemFolder::new(alloc, &[])?;
+    folder.add("an.image", &bytes)?;
+    let mut input = MemSource::new(alloc, b"", &[], 1)?;
+    let mut out = MemSink::new(alloc, ROOM, &[], 4096)?;
+    let mut err = MemSink::new(alloc, ROOM, &[], 4096)?;
+    let status = top(
+        alloc,
+        words(alloc, "migrate an.image")?,
+        &mut folder,
+        &mut input,
+        &mut out,
+        &mut err,
+        Vec::new(alloc),
+        Vec::new(alloc),
+    );
+    assert_eq!(rt; (status.code(), status.instructions()), (0, 0));
+    assert_eq!(rt; (bytes.len(), out.taken().len()), (168, 176));
+    let again = exec(alloc, "exec an.image", out.taken(), &sound())?;
+    assert_eq!(rt; (again.status, again.out.as_str()), (3, "H"));
+    Ok(())
+}
+
+/// Without makers a job that takes one is faulty usage.
+#[test]
+fn no_makers(rt: HostRuntime) -> Result<(), Fail> {
+    let alloc = rt.alloc();
+    let mut folder = MemFolder::new(alloc, &[])?;
+    folder.add("an.image", &image(alloc, &HELLO)?)?;
+    let mut input = MemSource::new(alloc, b"", &[], 1)?;
+    let mut out = MemSink::new(alloc, ROOM, &[], 4096)?;
+    let mut err = MemSink::new(alloc, ROOM, &[], 4096)?;
+    let status = top(
+        alloc,
+        words(alloc, "exec an.image")?,
+        &mut folder,
+        &mut input,
+        &mut out,
+        &mut err,
+        Vec::new(alloc),
+        Vec::new(alloc),
+    );
+    assert_eq!(rt; status.code(), 128);
     Ok(())
 }

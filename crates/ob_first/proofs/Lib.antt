@@ -1,0 +1,10 @@
+mod Positions
+mod Sources
+mod FirstReadings
+mod FirstForms
+mod FirstVerified
+mod FirstRuns
+mod FirstImages
+mod OneForm
+mod Outcomes
+mod SomeOutcome

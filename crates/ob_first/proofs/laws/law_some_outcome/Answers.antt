@@ -1,0 +1,5 @@
+use Rattle.ob_first.proofs.SomeOutcome.{some_outcome}
+use Rattle.ob_first.proofs.laws.law_some_outcome.Goals as goal
+
+pub returns : goal.returns
+returns c = some_outcome

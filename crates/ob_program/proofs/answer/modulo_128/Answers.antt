@@ -1,5 +1,0 @@
-use Rattle.ob_program.proofs.Residue.{remainder_is}
-use Rattle.ob_program.proofs.answer.modulo_128.Goals as goal
-
-pub returns : goal.returns
-returns c = remainder_is 128 c.args.number c.rem_euclid.result c.ranges.number (record { sfits = c.rem_euclid.type_inv }) c.rem_euclid.ensures.value

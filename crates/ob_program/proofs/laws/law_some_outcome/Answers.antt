@@ -1,5 +1,0 @@
-use Rattle.ob_program.proofs.SomeOutcome.{some_outcome}
-use Rattle.ob_program.proofs.laws.law_some_outcome.Goals as goal
-
-pub returns : goal.returns
-returns c = some_outcome
