@@ -3,7 +3,7 @@
 //! on `ob_program`, which promises what it does.
 #![tactic(auto)]
 
-use ob_base::{NoMemory, StdFolder, StdSink, StdSource};
+use ob_base::{Folder, NoMemory, Sink, Source, StdFolder, StdSink, StdSource};
 use ob_maker::{Count, Maker, Small, Zero};
 use ob_program::top;
 use ob_watch::{Counter, FirstEvents, Watcher};
@@ -22,51 +22,43 @@ fn main(rt: HostRuntime) -> ExitCode {
     let Ok(words) = words(&rt) else {
         return ExitCode::from(NO_MEMORY);
     };
-    let mut makers = Vec::new(rt.alloc());
-    let Ok(()) = add_makers(rt.alloc(), &mut makers) else {
-        return ExitCode::from(NO_MEMORY);
-    };
-    let mut watchers = Vec::new(rt.alloc());
-    let Ok(()) = add_watchers(rt.alloc(), &mut watchers) else {
-        return ExitCode::from(NO_MEMORY);
-    };
     let mut folder = StdFolder::new(&rt);
     let mut input = StdSource::new(rt.stdin());
     let stdout = rt.stdout();
     let stderr = rt.stderr();
     let mut out = StdSink::new(io::writer(&stdout));
     let mut err = StdSink::new(io::writer(&stderr));
-    let status = top(
+    let status = answer(
         rt.alloc(),
         words,
         &mut folder,
         &mut input,
         &mut out,
         &mut err,
-        makers,
-        watchers,
     );
-    ExitCode::from(status.code())
+    ExitCode::from(status.unwrap_or(NO_MEMORY))
 }
 
-/// Adds the makers that `--maker` names: `small`, `zero` and `count`.
-fn add_makers(alloc: Global, makers: &mut Vec<Box<dyn Maker>>) -> Result<(), NoMemory> {
-    let small: Box<dyn Maker> = Box::new(alloc, Small::new())?;
-    makers.push(small)?;
-    let zero: Box<dyn Maker> = Box::new(alloc, Zero::new())?;
-    makers.push(zero)?;
-    let count: Box<dyn Maker> = Box::new(alloc, Count::new())?;
-    makers.push(count)?;
-    Ok(())
-}
-
-/// Adds the watchers that `--report` tells of: one that keeps the first events, and one that counts.
-fn add_watchers(alloc: Global, watchers: &mut Vec<Box<dyn Watcher>>) -> Result<(), NoMemory> {
-    let first: Box<dyn Watcher> = Box::new(alloc, FirstEvents::new(alloc, KEPT_EVENTS)?)?;
-    watchers.push(first)?;
-    let counter: Box<dyn Watcher> = Box::new(alloc, Counter::new())?;
-    watchers.push(counter)?;
-    Ok(())
+/// Makes the makers that `--maker` names (`small`, `zero`, `count`) and the watchers that `--report` tells
+/// of, does what the words ask for, and gives the status.
+///
+/// - `NoMemory`: too little memory for these; nothing was read and written.
+fn answer<F: Folder, S: Source, K: Sink, E: Sink>(
+    alloc: Global,
+    words: Vec<String>,
+    folder: &mut F,
+    input: &mut S,
+    out: &mut K,
+    err: &mut E,
+) -> Result<u8, NoMemory> {
+    let mut makers: Vec<Box<dyn Maker>> = Vec::new(alloc);
+    makers.push(Box::new(alloc, Small::new())?)?;
+    makers.push(Box::new(alloc, Zero::new())?)?;
+    makers.push(Box::new(alloc, Count::new())?)?;
+    let mut watchers: Vec<Box<dyn Watcher>> = Vec::new(alloc);
+    watchers.push(Box::new(alloc, FirstEvents::new(alloc, KEPT_EVENTS)?)?)?;
+    watchers.push(Box::new(alloc, Counter::new())?)?;
+    Ok(top(alloc, words, folder, input, out, err, makers, watchers).code())
 }
 
 /// The words after the program's name. Where one isn't UTF-8 there are none, which asks for nothing,
