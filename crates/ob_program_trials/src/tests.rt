@@ -7,7 +7,7 @@ mod faults;
 mod forms;
 mod images;
 
-use ob_base::{MemFolder, MemSink, MemSource, NoMemory};
+use ob_base::{Folder, MemFolder, MemSink, MemSource, NoMemory, Sink, Source};
 use ob_maker::{Count, Maker, Small, Zero};
 use ob_program::top;
 use ob_watch::{Counter, FirstEvents, Watcher};
@@ -27,19 +27,25 @@ pub(crate) struct Ran {
     pub err: String,
 }
 
-/// The devices of a run: which loads and writes fail, and how many bytes a write takes at most.
+/// The devices of a run: what the input gives, which calls fail, and how many bytes a call takes or gives at
+/// most.
 #[derive(Drop)]
 pub(crate) struct Devices<'a> {
+    pub input: &'a [u8],
     pub loads: &'a [u64],
+    pub reads: &'a [u64],
     pub outs: &'a [u64],
     pub errs: &'a [u64],
     pub most: usize,
     ghost some: { 0 < most },
 }
 
+/// Devices that don't fail, but for the first read.
 pub(crate) fn sound<'a>() -> Devices<'a> {
     Devices {
+        input: b"",
         loads: &[],
+        reads: &[0],
         outs: &[],
         errs: &[],
         most: 4096,
@@ -58,47 +64,58 @@ pub(crate) fn words(alloc: Global, line: &str) -> Result<Vec<String>, AllocError
     Ok(all)
 }
 
-/// Does what the words of the line ask for, where a file of that name has this source.
+/// Calls the program with three makers and two watchers; its status and its number of instructions.
+pub(crate) fn call<F: Folder, S: Source, K: Sink, E: Sink>(
+    alloc: Global,
+    line: &str,
+    folder: &mut F,
+    input: &mut S,
+    out: &mut K,
+    err: &mut E,
+) -> Result<(u8, u64), NoMemory> {
+    let words = words(alloc, line)?;
+    let mut makers: Vec<Box<dyn Maker>> = Vec::new(alloc);
+    makers.push(Box::new(alloc, Small::new())?)?;
+    makers.push(Box::new(alloc, Zero::new())?)?;
+    makers.push(Box::new(alloc, Count::new())?)?;
+    let mut watchers: Vec<Box<dyn Watcher>> = Vec::new(alloc);
+    watchers.push(Box::new(alloc, FirstEvents::new(alloc, 16)?)?)?;
+    watchers.push(Box::new(alloc, Counter::new())?)?;
+    let status = top(alloc, words, folder, input, out, err, makers, watchers);
+    Ok((status.code(), status.instructions()))
+}
+
+/// Does what the words of the line ask for, and tells what the sinks took.
+fn told<F: Folder, S: Source>(
+    alloc: Global,
+    line: &str,
+    folder: &mut F,
+    input: &mut S,
+    devices: &Devices,
+) -> Result<Ran, NoMemory> {
+    let mut out = MemSink::new(alloc, ROOM, devices.outs, devices.most)?;
+    let mut err = MemSink::new(alloc, ROOM, devices.errs, devices.most)?;
+    let (status, instructions) = call(alloc, line, folder, input, &mut out, &mut err)?;
+    Ok(Ran {
+        status,
+        instructions,
+        out: text(alloc, out.taken())?,
+        err: text(alloc, err.taken())?,
+    })
+}
+
+/// Does what the words of the line ask for, where a file of that name has these bytes.
 pub(crate) fn run(
     alloc: Global,
     line: &str,
     name: &str,
-    source: &[u8],
+    bytes: &[u8],
     devices: &Devices,
 ) -> Result<Ran, NoMemory> {
     let mut folder = MemFolder::new(alloc, devices.loads)?;
-    folder.add(name, source)?;
-    let mut input = MemSource::new(alloc, b"", &[0], 1)?;
-    let mut out = MemSink::new(alloc, ROOM, devices.outs, devices.most)?;
-    let mut err = MemSink::new(alloc, ROOM, devices.errs, devices.most)?;
-    let small: Box<dyn Maker> = Box::new(alloc, Small::new())?;
-    let zero: Box<dyn Maker> = Box::new(alloc, Zero::new())?;
-    let count: Box<dyn Maker> = Box::new(alloc, Count::new())?;
-    let mut makers = Vec::new(alloc);
-    makers.push(small)?;
-    makers.push(zero)?;
-    makers.push(count)?;
-    let first: Box<dyn Watcher> = Box::new(alloc, FirstEvents::new(alloc, 16)?)?;
-    let counter: Box<dyn Watcher> = Box::new(alloc, Counter::new())?;
-    let mut watchers = Vec::new(alloc);
-    watchers.push(first)?;
-    watchers.push(counter)?;
-    let status = top(
-        alloc,
-        words(alloc, line)?,
-        &mut folder,
-        &mut input,
-        &mut out,
-        &mut err,
-        makers,
-        watchers,
-    );
-    Ok(Ran {
-        status: status.code(),
-        instructions: status.instructions(),
-        out: text(alloc, out.taken())?,
-        err: text(alloc, err.taken())?,
-    })
+    folder.add(name, bytes)?;
+    let mut input = MemSource::new(alloc, devices.input, devices.reads, devices.most)?;
+    told(alloc, line, &mut folder, &mut input, devices)
 }
 
 /// Runs a source under the name `c.c`.

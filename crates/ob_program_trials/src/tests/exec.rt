@@ -1,77 +1,24 @@
 //! `exec`: what images do, which bytes and words are refused, and what devices that fail come to.
-ghost use Rattle.std.specs.Prelude.{◌<◌};
-
 use crate::tests::images::{CALLS, DIVIDES, ECHO, HEAP, HELLO, OPEN, PLACE, STILL, TICKS, image};
-use crate::tests::{ROOM, text, words};
-use ob_base::{MemFolder, MemSink, MemSource, NoMemory};
-use ob_maker::{Count, Maker, Small, Zero};
+use crate::tests::{Devices, ROOM, Ran, call, run, words};
+use ob_base::{Folder, MemFolder, MemSink, MemSource, NoMemory, Source};
 use ob_program::top;
-use ob_watch::{Counter, FirstEvents, Watcher};
 use std::alloc::Global;
 use std::test::Fail;
-
-/// What a run did: its status, its number of instructions, and what the sinks took.
-#[derive(Drop)]
-struct Executed {
-    status: u8,
-    instructions: u64,
-    out: String,
-    err: String,
-}
-
-/// What a run reads, which calls of a device fail, and how many bytes a call takes or gives at most.
-#[derive(Drop)]
-struct Devices<'a> {
-    input: &'a [u8],
-    reads: &'a [u64],
-    outs: &'a [u64],
-    most: usize,
-    ghost some: { 0 < most },
-}
 
 fn sound<'a>() -> Devices<'a> {
     Devices {
         input: b"",
+        loads: &[],
         reads: &[],
         outs: &[],
+        errs: &[],
         most: 4096,
     }
 }
 
-fn exec(alloc: Global, line: &str, bytes: &[u8], devices: &Devices) -> Result<Executed, NoMemory> {
-    let mut folder = MemFolder::new(alloc, &[])?;
-    folder.add("an.image", bytes)?;
-    let mut input = MemSource::new(alloc, devices.input, devices.reads, devices.most)?;
-    let mut out = MemSink::new(alloc, ROOM, devices.outs, devices.most)?;
-    let mut err = MemSink::new(alloc, ROOM, &[], devices.most)?;
-    let small: Box<dyn Maker> = Box::new(alloc, Small::new())?;
-    let zero: Box<dyn Maker> = Box::new(alloc, Zero::new())?;
-    let count: Box<dyn Maker> = Box::new(alloc, Count::new())?;
-    let mut makers = Vec::new(alloc);
-    makers.push(small)?;
-    makers.push(zero)?;
-    makers.push(count)?;
-    let first: Box<dyn Watcher> = Box::new(alloc, FirstEvents::new(alloc, 16)?)?;
-    let counter: Box<dyn Watcher> = Box::new(alloc, Counter::new())?;
-    let mut watchers = Vec::new(alloc);
-    watchers.push(first)?;
-    watchers.push(counter)?;
-    let status = top(
-        alloc,
-        words(alloc, line)?,
-        &mut folder,
-        &mut input,
-        &mut out,
-        &mut err,
-        makers,
-        watchers,
-    );
-    Ok(Executed {
-        status: status.code(),
-        instructions: status.instructions(),
-        out: text(alloc, out.taken())?,
-        err: text(alloc, err.taken())?,
-    })
+fn exec(alloc: Global, line: &str, bytes: &[u8], devices: &Devices) -> Result<Ran, NoMemory> {
+    run(alloc, line, "an.image", bytes, devices)
 }
 
 #[test]
@@ -189,32 +136,59 @@ fn slow_and_failing_devices(rt: HostRuntime) -> Result<(), Fail> {
     Ok(())
 }
 
+/// The status of `migrate`, and what it wrote.
+fn rewritten<F: Folder, S: Source>(
+    alloc: Global,
+    folder: &mut F,
+    input: &mut S,
+) -> Result<(u8, Vec<u8>), NoMemory> {
+    let mut out = MemSink::new(alloc, ROOM, &[], 4096)?;
+    let mut err = MemSink::new(alloc, ROOM, &[], 4096)?;
+    let (status, _) = call(alloc, "migrate an.image", folder, input, &mut out, &mut err)?;
+    Ok((status, Vec::from_slice(alloc, out.taken())?))
+}
+
+/// The same of an image with these bytes.
+fn migrate(alloc: Global, bytes: &[u8]) -> Result<(u8, Vec<u8>), NoMemory> {
+    let mut folder = MemFolder::new(alloc, &[])?;
+    folder.add("an.image", bytes)?;
+    let mut input = MemSource::new(alloc, b"", &[0], 1)?;
+    rewritten(alloc, &mut folder, &mut input)
+}
+
 /// An image is written anew in version 2: its version, its profile and an empty list of names are what is
 /// added, and it runs as before.
 #[test]
 fn migrated(rt: HostRuntime) -> Result<(), Fail> {
     let alloc = rt.alloc();
     let bytes = image(alloc, &HELLO)?;
-    let mut folder = MemFolder::new(alloc, &[])?;
-    folder.add("an.image", &bytes)?;
-    let mut input = MemSource::new(alloc, b"", &[], 1)?;
+    let (status, written) = migrate(alloc, &bytes)?;
+    assert_eq!(rt; (status, bytes.len(), written.len()), (0, 168, 176));
+    let again = exec(alloc, "exec an.image", &written, &sound())?;
+    assert_eq!(rt; (again.status, again.out.as_str()), (3, "H"));
+    Ok(())
+}
+
+/// The status where there are no makers.
+fn without_makers<F: Folder, S: Source>(
+    alloc: Global,
+    folder: &mut F,
+    input: &mut S,
+) -> Result<u8, NoMemory> {
+    let words = words(alloc, "exec an.image")?;
     let mut out = MemSink::new(alloc, ROOM, &[], 4096)?;
     let mut err = MemSink::new(alloc, ROOM, &[], 4096)?;
     let status = top(
         alloc,
-        words(alloc, "migrate an.image")?,
-        &mut folder,
-        &mut input,
+        words,
+        folder,
+        input,
         &mut out,
         &mut err,
         Vec::new(alloc),
         Vec::new(alloc),
     );
-    assert_eq!(rt; (status.code(), status.instructions()), (0, 0));
-    assert_eq!(rt; (bytes.len(), out.taken().len()), (168, 176));
-    let again = exec(alloc, "exec an.image", out.taken(), &sound())?;
-    assert_eq!(rt; (again.status, again.out.as_str()), (3, "H"));
-    Ok(())
+    Ok(status.code())
 }
 
 /// Without makers a job that takes one is faulty usage.
@@ -224,18 +198,7 @@ fn no_makers(rt: HostRuntime) -> Result<(), Fail> {
     let mut folder = MemFolder::new(alloc, &[])?;
     folder.add("an.image", &image(alloc, &HELLO)?)?;
     let mut input = MemSource::new(alloc, b"", &[], 1)?;
-    let mut out = MemSink::new(alloc, ROOM, &[], 4096)?;
-    let mut err = MemSink::new(alloc, ROOM, &[], 4096)?;
-    let status = top(
-        alloc,
-        words(alloc, "exec an.image")?,
-        &mut folder,
-        &mut input,
-        &mut out,
-        &mut err,
-        Vec::new(alloc),
-        Vec::new(alloc),
-    );
-    assert_eq!(rt; status.code(), 128);
+    let status = without_makers(alloc, &mut folder, &mut input)?;
+    assert_eq!(rt; status, 128);
     Ok(())
 }
