@@ -19,5 +19,5 @@
 
 pub use store::{Dropped, StrayStore};
 
+mod indexed;
 mod store;
-mod walk;
