@@ -1,7 +1,7 @@
 -- The test of two granules for equality, and their order.
 use Rattle.std.proofs.Common.{◌≡◌, ◌==◌, ◌&&◌, ℕ, ℤ, Bool, true, false, ap, ◌∙◌, sym, refl, arith, nat_cmp, int_cmp, int_eq, is_eq, is_gt, Less, Equal, Greater, Ordering, FitsSigned, w64, to_z, true≢false}
 use Rattle.std.specs.Cmp.{IsEquivalence, signed_Decides, nat_eq_equiv, both_tied}
-use Rattle.std.specs.Ordering.{MatchOrdering, ordering_then}
+use Rattle.std.specs.Ordering.{ordering_then}
 use Rattle.std.proofs.lemmas.Bool.{and_parts, and_from, eq-eqb, eqb-true}
 use Rattle.std.proofs.lemmas.Bool.Decides.{nat_tests}
 use Rattle.std.proofs.lemmas.Cmp.{int_eq_equiv, on_equiv, and_equiv, nat_cmp_total, tied_itself, ranked, int_ranked}

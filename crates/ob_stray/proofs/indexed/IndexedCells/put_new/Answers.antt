@@ -1,9 +1,8 @@
-use Rattle.std.proofs.Common.{◌≡◌, ◌∙◌, false, Option, Some, FitsSigned, ap, sym, subst, slice_get, ◌-◌, w64, rules}
-use Rattle.std.specs.Option.{option_map_or}
+use Rattle.std.proofs.Common.{◌≡◌, ◌∙◌, false, Some, FitsSigned, sym, subst, slice_get, ◌-◌, w64, rules}
 use Rattle.lru.specs.LruCache.{LruCache, IsValid}
 use Rattle.ob_model.specs.Descriptors.{Pair, same_pair}
 use Rattle.ob_model.specs.declared.values.Cell.{Cell}
-use Rattle.ob_stray.specs.Kept.{is_listed, Entry}
+use Rattle.ob_stray.specs.Kept.{is_listed}
 use Rattle.ob_stray.proofs.Indexing.{index-back, index-new, index-drop, displaced-new}
 use Rattle.ob_stray.proofs.indexed.IndexedCells.put_new.Goals as goal
 

@@ -1,10 +1,5 @@
-use Rattle.std.proofs.Common.{◌≡◌, ◌∙◌, Bool, true, ℤ, List, ap, sym, subst, length}
-use Rattle.std.specs.BTreeSet.{contains}
-use Rattle.lru.specs.LruCache.{LruCache}
-use Rattle.ob_model.specs.Descriptors.{Pair}
-use Rattle.ob_model.specs.declared.values.Cell.{Cell}
-use Rattle.ob_stray.specs.Kept.{Entry, others, pair_cmp}
-use Rattle.ob_stray.proofs.Indexing.{index-less, others-removed, removed-shorter, none-own, others-none}
+use Rattle.std.proofs.Common.{◌∙◌, sym}
+use Rattle.ob_stray.proofs.Indexing.{index-less, others-removed, removed-shorter, none-own}
 use Rattle.ob_stray.proofs.indexed.IndexedCells.take_one.Goals as goal
 
 pub returns-in_default-clause-none : goal.returns-in_default-clause-none

@@ -1,4 +1,4 @@
-use Rattle.std.proofs.Common.{◌≡◌, ◌∙◌, ℤ, Bool, List, true, false, Option, is_some, ap, sym, w64}
+use Rattle.std.proofs.Common.{◌≡◌, ◌∙◌, ℤ, Bool, List, false, Option, is_some, ap, sym, w64}
 use Rattle.std.specs.Option.{option_map}
 use Rattle.std.proofs.lemmas.Int.{to_z-of_z}
 use Rattle.std.proofs.lemmas.Bool.{false≢true}
