@@ -9,9 +9,9 @@
 
 pub use table::{AwayTable, Full};
 
+mod chains;
 mod free;
 mod index;
-mod marks;
 mod table;
 #[cfg(test)]
 mod tests;
