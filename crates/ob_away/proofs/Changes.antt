@@ -1,5 +1,5 @@
 -- What a table keeps while a pair enters and while an object's pairs leave.
-use Rattle.std.proofs.Common.{◌≡◌, ◌==◌, ℕ, suc, ◌<◌, ◌⊎◌, Bool, true, false, List, length, get_or, set, [], ◌∷◌, arith, Option, Some, None, ap, ⊎_elim, inl, inr, sym, ◌∙◌, get_or-set_same, get_or-set_other, refl, if◌then◌else◌}
+use Rattle.std.proofs.Common.{◌≡◌, ◌==◌, ℕ, suc, ◌<◌, ◌⊎◌, false, length, set, [], ◌∷◌, arith, Option, Some, None, ap, ⊎_elim, inl, inr, sym, ◌∙◌, get_or-set_same, get_or-set_other, refl, if◌then◌else◌}
 use Rattle.std.proofs.lemmas.Bool.{cases_eq, cases_Bool, both_ways, eq-eqb, ne_eqb, cond-true, cond-false}
 use Rattle.std.proofs.Math.ListN.{get_or-map}
 use Rattle.ob_model.specs.Descriptors.{Pair, Slots, IsInterned, holds, slot_of, pair_in}

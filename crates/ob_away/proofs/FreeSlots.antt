@@ -1,17 +1,15 @@
 -- The heap of free slots.
 use Rattle.std.proofs.Common.{◌≡◌, ◌==◌, ℕ, zero, suc, ◌+◌, ◌-◌, pos, ◌<◌, ◌≤◌, Bool, true, false, cond, List, [], ◌∷◌, ◌++◌, length, set, get_or, arith, Option, Some, None, ap, ⊎_elim, sym, ◌∙◌, length-append, get_or-set_same, get_or-set_other, refl}
-use Rattle.std.specs.Prelude.{is_none, is_some, IsSome, IfNone, IfSome, count_by}
-use Rattle.std.specs.List.{sum_by, AllByRecursion}
+use Rattle.std.specs.Prelude.{is_none, is_some, IsSome, count_by}
 use Rattle.std.specs.List.Sorted.{IsPermutation}
 use Rattle.std.specs.Ordering.{is_lt, nat_cmp}
 use Rattle.std.specs.BinaryHeap.{IsHeap, IsUpperBound, PopsGreatest, KeepsHeap, heap_items, heap_len}
 use Rattle.std.specs.declared.cmp.Ordering.TheVariants.{Less, Equal, Greater}
 use Rattle.std.specs.declared.cmp.Reverse.{Reverse}
-use Rattle.std.proofs.lemmas.Bool.{cases_Bool, cases_eq, cases_lt, both_ways, cond-true, cond-false, lt-ltb, eq-eqb, ne_eqb, eqb-true}
+use Rattle.std.proofs.lemmas.Bool.{cases_Bool, cases_eq, cases_lt, both_ways, cond-true, cond-false, lt-ltb, eq-eqb, ne_eqb}
 use Rattle.std.proofs.lemmas.List.{get_or_append_left, get_or-append_right, get_or_past, get_or_default, length-set}
 use Rattle.std.proofs.lemmas.List.Sums.{sum_by-cons, sum_by-set, sum_by_push, count_by-le-length, get_or-le-sum_by}
 use Rattle.std.proofs.lemmas.List.Sorted.{sum_by_pushed, sum_by_popped}
-use Rattle.std.proofs.Math.Seq.{set-append_seam}
 use Rattle.ob_model.specs.Descriptors.{Pair, Slots, vacant, pair_in, pair_count}
 use Rattle.ob_away.specs.Kept.{Free, falling, is_free, IsListed}
 use Rattle.ob_away.proofs.Positions.{position_is, position_none}
@@ -109,48 +107,48 @@ none_below x (y ∷ ys) k bound below =
 
 module _ (slots : Slots) (old new : Free) (x : Reverse ℕ) (listed : IsListed old slots)
     (moved : IsPermutation (heap_items old) (x ∷ heap_items new)) (order : PopsGreatest falling (heap_items old) x (heap_items new))
-    where
-  popped : (k : ℕ) → count_by (is_slot k) (heap_items new) + cond (is_slot k x) 1 0 ≡ cond (is_free slots k) 1 0
-  popped k = sum_by_popped (λ r. cond (is_slot k r) 1 0) x (heap_items old) (heap_items new) moved ∙ listed.each k
+  where
+    popped : (k : ℕ) → count_by (is_slot k) (heap_items new) + cond (is_slot k x) 1 0 ≡ cond (is_free slots k) 1 0
+    popped k = sum_by_popped (λ r. cond (is_slot k r) 1 0) x (heap_items old) (heap_items new) moved ∙ listed.each k
 
-  pub top-free : is_free slots x.0 ≡ true
-  top-free =
-      true_where (is_free slots x.0) (omega (arith, popped x.0, one_slot x.0 x refl))
+    pub top-free : is_free slots x.0 ≡ true
+    top-free =
+        true_where (is_free slots x.0) (omega (arith, popped x.0, one_slot x.0 x refl))
 
-  below_top : (k : ℕ) → k < x.0 → is_free slots k ≡ false
-  below_top k below =
-      ⊎_elim
-      (λ free. absurd (omega (arith, listed.each k, one_where (is_free slots k) free, none_below x (heap_items old) k (order listed.ordered).1 below)))
-      (λ used. used)
-      (cases_Bool (is_free slots k))
+    below_top : (k : ℕ) → k < x.0 → is_free slots k ≡ false
+    below_top k below =
+        ⊎_elim
+        (λ free. absurd (omega (arith, listed.each k, one_where (is_free slots k) free, none_below x (heap_items old) k (order listed.ordered).1 below)))
+        (λ used. used)
+        (cases_Bool (is_free slots k))
 
-  pub top-vacant : vacant slots ≡ Some x.0
-  top-vacant =
-      let within = within_free slots x.0 top-free in
-      position_is is_none slots None x.0 within
-      (is_free-inside slots x.0 within ∙ top-free)
-      (λ k less. is_free-inside slots k (omega arith) ∙ below_top k less)
+    pub top-vacant : vacant slots ≡ Some x.0
+    top-vacant =
+        let within = within_free slots x.0 top-free in
+        position_is is_none slots None x.0 within
+        (is_free-inside slots x.0 within ∙ top-free)
+        (λ k less. is_free-inside slots k (omega arith) ∙ below_top k less)
 
-  pub IsListed-taken : (pair : Pair) → heap_len new + 1 ≡ heap_len old → IsListed new (set slots x.0 (Some pair))
-  IsListed-taken pair fewer =
-      let within = within_free slots x.0 top-free in
-      let here : ℕ = tally (is_some (pair_in slots x.0)) in
-      let filled : pair_count (set slots x.0 (Some pair)) + here ≡ pair_count slots + 1 = sum_by-set (λ slot. cond (is_some slot) 1 0) slots x.0 (Some pair) None within in
-      let empty : here ≡ 0 = ap (λ (slot : Option Pair). tally (is_some slot)) (free_at (pair_in slots x.0) (is_free-inside slots x.0 within ∙ top-free)) in
-      record {
-        ordered = (order listed.ordered).0;
-        each = λ k.
-            ⊎_elim
-            (λ same.
-            let used : is_free (set slots x.0 (Some pair)) k ≡ false = ap (is_free (set slots x.0 (Some pair))) same ∙ is_free-set slots x.0 (Some pair) within in
-            let free : is_free slots k ≡ true = ap (is_free slots) same ∙ top-free in
-            omega (arith, popped k, one_slot k x (sym same), one_where _ free, none_where _ used))
-            (λ apart.
-            let kept : tally (is_free (set slots x.0 (Some pair)) k) ≡ tally (is_free slots k) = ap tally (is_free-other slots x.0 k (Some pair) apart) in
-            omega (arith, popped k, no_slot k x (λ same. apart (sym same)), kept))
-            (cases_eq k x.0);
-        counted = omega (arith, listed.counted, filled, empty, fewer, length-set slots x.0 (Some pair));
-      }
+    pub IsListed-taken : (pair : Pair) → heap_len new + 1 ≡ heap_len old → IsListed new (set slots x.0 (Some pair))
+    IsListed-taken pair fewer =
+        let within = within_free slots x.0 top-free in
+        let here : ℕ = tally (is_some (pair_in slots x.0)) in
+        let filled : pair_count (set slots x.0 (Some pair)) + here ≡ pair_count slots + 1 = sum_by-set (λ slot. cond (is_some slot) 1 0) slots x.0 (Some pair) None within in
+        let empty : here ≡ 0 = ap (λ (slot : Option Pair). tally (is_some slot)) (free_at (pair_in slots x.0) (is_free-inside slots x.0 within ∙ top-free)) in
+        record {
+          ordered = (order listed.ordered).0;
+          each = λ k.
+              ⊎_elim
+              (λ same.
+              let used : is_free (set slots x.0 (Some pair)) k ≡ false = ap (is_free (set slots x.0 (Some pair))) same ∙ is_free-set slots x.0 (Some pair) within in
+              let free : is_free slots k ≡ true = ap (is_free slots) same ∙ top-free in
+              omega (arith, popped k, one_slot k x (sym same), one_where _ free, none_where _ used))
+              (λ apart.
+              let kept : tally (is_free (set slots x.0 (Some pair)) k) ≡ tally (is_free slots k) = ap tally (is_free-other slots x.0 k (Some pair) apart) in
+              omega (arith, popped k, no_slot k x (λ same. apart (sym same)), kept))
+              (cases_eq k x.0);
+          counted = omega (arith, listed.counted, filled, empty, fewer, length-set slots x.0 (Some pair));
+        }
 
 -- ---- a slot that is put on the heap
 

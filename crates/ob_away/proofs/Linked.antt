@@ -1,7 +1,7 @@
 -- The chain of each object's slots.
-use Rattle.std.proofs.Common.{◌≡◌, ◌==◌, ◌&&◌, ℕ, zero, suc, ◌+◌, ◌<◌, ◌≤◌, Bool, true, false, not, List, [], ◌∷◌, length, set, get_or, arith, Option, Some, None, ap, ⊎_elim, sym, ◌∙◌, get_or-set_same, get_or-set_other, refl, ltb, if◌then◌else◌}
+use Rattle.std.proofs.Common.{◌≡◌, ◌==◌, ◌&&◌, ℕ, zero, suc, ◌+◌, ◌<◌, Bool, true, false, not, List, [], ◌∷◌, length, set, get_or, arith, Option, Some, None, ap, ⊎_elim, sym, ◌∙◌, get_or-set_same, get_or-set_other, refl, ltb, if◌then◌else◌}
 use Rattle.std.specs.Prelude.{nat_eq, IsSome}
-use Rattle.std.proofs.lemmas.Bool.{cases_Bool, cases_eq, cases_lt, both_ways, cond-true, cond-false, eq-eqb, ne_eqb, eqb-true, lt-ltb, le-ltb, and_parts, and_from}
+use Rattle.std.proofs.lemmas.Bool.{cases_Bool, cases_eq, cases_lt, both_ways, cond-true, cond-false, eq-eqb, ne_eqb, eqb-true, lt-ltb, le-ltb, and_parts}
 use Rattle.std.proofs.lemmas.List.{get_or_past}
 use Rattle.ob_model.specs.Descriptors.{Pair, Slots, pair_in}
 use Rattle.ob_away.specs.Slots.{is_of, without}
@@ -75,31 +75,33 @@ module _ (heads new : Heads) (next : List (Option ℕ)) (object s : ℕ) (own af
     (foreign : (x : ℕ) → nat_eq object x ≡ false → after x s ≡ false) (alike : (x k : ℕ) → (k ≡ s → ⊥) → after x k ≡ own x k)
     (led : head_of new object ≡ Some s) (others : LeadsOthers heads new object)
     (chained : (x : ℕ) → Chained next (head_of heads x) (own x))
-    where
-  more_here : (x : ℕ) → object ≡ x → Chained (set next s (head_of heads object)) (head_of new x) (after x)
-  more_here x is =
-      let before = chained object in
-      let here : Chained (set next s (head_of heads object)) (head_of new object) (after object) =
-      (s ∷ before.0, rw led (chain-more before.0 next (head_of heads object) s (own object) (after object) within (vacant object) taken (alike object) before.1)) in
-      rw (← is) here
+  where
+    more_here : (x : ℕ) → object ≡ x → Chained (set next s (head_of heads object)) (head_of new x) (after x)
+    more_here x is =
+        let before = chained object in
+        let here : Chained (set next s (head_of heads object)) (head_of new object) (after object) =
+        (s ∷ before.0, rw led (chain-more before.0 next (head_of heads object) s (own object) (after object) within (vacant object) taken (alike object) before.1)) in
+        rw (← is) here
 
-  more_there : (x : ℕ) → nat_eq object x ≡ false → Chained (set next s (head_of heads object)) (head_of new x) (after x)
-  more_there x apart =
-      let before = chained x in
-      (before.0, rw (others x apart) (chain-same before.0 next (set next s (head_of heads object)) (head_of heads x) (own x) (after x)
-      (λ k. ⊎_elim
-      (λ is. ap (after x) is ∙ foreign x apart ∙ sym (ap (own x) is ∙ vacant x))
-      (λ other. alike x k other)
-      (cases_eq k s))
-      (λ k held. get_or-set_other next s k (head_of heads object) None (λ is. both_ways (own x s) (vacant x) (ap (own x) (sym is) ∙ held)))
-      before.1))
+    more_there : (x : ℕ) → nat_eq object x ≡ false → Chained (set next s (head_of heads object)) (head_of new x) (after x)
+    more_there x apart =
+        let before = chained x in (
+          before.0,
+          rw (others x apart) (chain-same before.0 next (set next s (head_of heads object)) (head_of heads x) (own x) (after x)
+              (λ k. ⊎_elim
+              (λ is. ap (after x) is ∙ foreign x apart ∙ sym (ap (own x) is ∙ vacant x))
+              (λ other. alike x k other)
+              (cases_eq k s))
+              (λ k held. get_or-set_other next s k (head_of heads object) None (λ is. both_ways (own x s) (vacant x) (ap (own x) (sym is) ∙ held)))
+              before.1),
+        )
 
-  pub chained-more : (x : ℕ) → Chained (set next s (head_of heads object)) (head_of new x) (after x)
-  chained-more x =
-      ⊎_elim
-      (λ same. more_here x (eqb-true object x same))
-      (λ apart. more_there x apart)
-      (cases_Bool (nat_eq object x))
+    pub chained-more : (x : ℕ) → Chained (set next s (head_of heads object)) (head_of new x) (after x)
+    chained-more x =
+        ⊎_elim
+        (λ same. more_here x (eqb-true object x same))
+        (λ apart. more_there x apart)
+        (cases_Bool (nat_eq object x))
 
 -- ---- slots
 
@@ -188,15 +190,17 @@ owns_below slots n object k = owns slots object k && ltb k n
 pub IsLinked-below : (heads : Heads) (next : List (Option ℕ)) (slots : Slots) → ((x : ℕ) → Chained next (head_of heads x) (owns_below slots (length slots) x)) → IsLinked heads next slots
 IsLinked-below heads next slots below = record {
   chained = λ x.
-      let all = below x in
-      (all.0, chain-same all.0 next next (head_of heads x) (owns_below slots (length slots) x) (owns slots x)
-      (λ k. ⊎_elim
-      (λ inside. sym (and_true (owns slots x k) (ltb k (length slots)) (lt-ltb k (length slots) inside)))
-      (λ past.
-      let none : owns slots x k ≡ false = ap (is_of x) (get_or_past slots k None past) in
-      none ∙ sym (and_never (owns slots x k) (ltb k (length slots)) none))
-      (cases_lt k (length slots)))
-      (λ k own. refl) all.1);
+      let all = below x in (
+        all.0,
+        chain-same all.0 next next (head_of heads x) (owns_below slots (length slots) x) (owns slots x)
+            (λ k. ⊎_elim
+            (λ inside. sym (and_true (owns slots x k) (ltb k (length slots)) (lt-ltb k (length slots) inside)))
+            (λ past.
+            let none : owns slots x k ≡ false = ap (is_of x) (get_or_past slots k None past) in
+            none ∙ sym (and_never (owns slots x k) (ltb k (length slots)) none))
+            (cases_lt k (length slots)))
+            (λ k own. refl) all.1,
+      );
 }
 
 ltb_more : (k n : ℕ) → (k ≡ n → ⊥) → ltb k (n + 1) ≡ ltb k n
@@ -225,15 +229,17 @@ below-more heads new next slots n object pair here is long led others below =
 -- one more slot, which is free
 pub below-free : (heads : Heads) (next : List (Option ℕ)) (slots : Slots) (n : ℕ) → pair_in slots n ≡ None → ((x : ℕ) → Chained next (head_of heads x) (owns_below slots n x)) → (x : ℕ) → Chained next (head_of heads x) (owns_below slots (n + 1) x)
 below-free heads next slots n free below x =
-    let all = below x in
-    (all.0, chain-same all.0 next next (head_of heads x) (owns_below slots n x) (owns_below slots (n + 1) x)
-    (λ k. ⊎_elim
-    (λ same.
-    let none : owns slots x k ≡ false = ap (owns slots x) same ∙ ap (is_of x) free in
-    and_never (owns slots x k) (ltb k (n + 1)) none ∙ sym (and_never (owns slots x k) (ltb k n) none))
-    (λ apart. below-other slots n x k apart)
-    (cases_eq k n))
-    (λ k own. refl) all.1)
+    let all = below x in (
+      all.0,
+      chain-same all.0 next next (head_of heads x) (owns_below slots n x) (owns_below slots (n + 1) x)
+          (λ k. ⊎_elim
+          (λ same.
+          let none : owns slots x k ≡ false = ap (owns slots x) same ∙ ap (is_of x) free in
+          and_never (owns slots x k) (ltb k (n + 1)) none ∙ sym (and_never (owns slots x k) (ltb k n) none))
+          (λ apart. below-other slots n x k apart)
+          (cases_eq k n))
+          (λ k own. refl) all.1,
+    )
 
 pub below-none : (heads : Heads) (next : List (Option ℕ)) (slots : Slots) (x : ℕ) → Chained next (head_of heads x) (owns_below slots 0 x)
 below-none heads next slots x = ([], (λ k. and_false (owns slots x k) (ltb k 0) (le-ltb k 0 (omega arith))))
@@ -242,13 +248,15 @@ below-none heads next slots x = ([], (λ k. and_false (owns slots x k) (ltb k 0)
 pub chained-freed : (next : List (Option ℕ)) (at : Option ℕ) (slots : Slots) (object s : ℕ) → at ≡ Some s → owns slots object s ≡ true → Chained next at (owns slots object) → Chained next (get_or next s None) (owns (set slots s None) object)
 chained-freed next at slots object s is own chained =
     let rest = chain-next chained.0 next at s (owns slots object) chained.1 is own in
-    let within : s < length slots = (within_owned slots object s own).0 in
-    (rest.0, chain-same rest.0 next next (get_or next s None) (but (owns slots object) s) (owns (set slots s None) object)
-    (λ k. ⊎_elim
-    (λ same. ap (owns (set slots s None) object) same ∙ owns-here slots object s None within ∙ sym (ap (but (owns slots object) s) same ∙ but-same (owns slots object) s))
-    (λ apart. owns-other slots object s k None apart ∙ sym (but-other (owns slots object) s k apart))
-    (cases_eq k s))
-    (λ k own. refl) rest.1)
+    let within : s < length slots = (within_owned slots object s own).0 in (
+      rest.0,
+      chain-same rest.0 next next (get_or next s None) (but (owns slots object) s) (owns (set slots s None) object)
+          (λ k. ⊎_elim
+          (λ same. ap (owns (set slots s None) object) same ∙ owns-here slots object s None within ∙ sym (ap (but (owns slots object) s) same ∙ but-same (owns slots object) s))
+          (λ apart. owns-other slots object s k None apart ∙ sym (but-other (owns slots object) s k apart))
+          (cases_eq k s))
+          (λ k own. refl) rest.1,
+    )
 
 -- and what that leaves to be freed
 pub without-freed : (slots : Slots) (object s : ℕ) → owns slots object s ≡ true → without object (set slots s None) ≡ without object slots

@@ -1,5 +1,5 @@
 -- The slots that were ever used: how many hold a pair, and one more of them.
-use Rattle.std.proofs.Common.{◌≡◌, ℕ, zero, suc, ◌-◌, pos, ◌+◌, ◌<◌, ◌≤◌, true, false, cond, length, set, [], ◌∷◌, ◌++◌, arith, Option, Some, None, ap, ⊎_elim, sym, ◌∙◌, length-append, refl}
+use Rattle.std.proofs.Common.{◌≡◌, ℕ, zero, suc, ◌-◌, ◌+◌, ◌<◌, ◌≤◌, true, false, cond, length, set, [], ◌∷◌, ◌++◌, arith, Option, Some, None, ap, ⊎_elim, sym, ◌∙◌, refl}
 use Rattle.std.specs.Prelude.{is_none, is_some, unwrap_or, MatchOption, IfSome, if◌then◌else◌}
 use Rattle.std.proofs.lemmas.Bool.{cases_lt}
 use Rattle.std.proofs.lemmas.List.{get_or_append_left, get_or-append_right, get_or_past}

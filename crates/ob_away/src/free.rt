@@ -40,11 +40,7 @@ fn extend(limit: u32, slots: &mut Vec<Option<(u64, i64)>>) -> Option<u32>
 }
 
 /// The least free slot, taken off the heap; `None` where as many slots as the limit are used.
-pub(crate) fn claim(
-    limit: u32,
-    slots: &mut Vec<Option<(u64, i64)>>,
-    free: &mut Free,
-) -> Option<u32>
+pub(crate) fn claim(limit: u32, slots: &mut Vec<Option<(u64, i64)>>, free: &mut Free) -> Option<u32>
     requires within { length slots.old.items ≤ limit }
     requires fit { limit ≤ vec_capacity slots.old }
     requires listed { IsListed free.old slots.old.items }

@@ -128,7 +128,13 @@ impl AwayTable {
         ensures { self.new ≡ record self.old { slots = without object self.old.slots } }
     {
         let first = head(&self.heads, object);
-        free_chain(&mut self.slots, &mut self.free, self.next.as_slice(), first, object);
+        free_chain(
+            &mut self.slots,
+            &mut self.free,
+            self.next.as_slice(),
+            first,
+            object,
+        );
     }
 
     /// Frees every slot, which gives the state that `new` gave, in the memory that the table has.

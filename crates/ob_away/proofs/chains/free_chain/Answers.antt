@@ -1,6 +1,6 @@
-use Rattle.std.proofs.Common.{◌≡◌, ◌<◌, ℕ, true, false, length, Some, None, set, arith, ap, sym, ◌∙◌}
+use Rattle.std.proofs.Common.{◌≡◌, ℕ, true, false, length, Some, None, arith, ap, sym, ◌∙◌}
 use Rattle.std.proofs.lemmas.List.{length-set}
-use Rattle.ob_model.specs.Descriptors.{Slots, pair_count, pair_in}
+use Rattle.ob_model.specs.Descriptors.{Slots, pair_count}
 use Rattle.ob_away.specs.Slots.{without}
 use Rattle.ob_away.specs.Kept.{owns}
 use Rattle.ob_away.proofs.FreeSlots.{freed_count}

@@ -1,4 +1,4 @@
-use Rattle.std.proofs.Common.{◌≡◌, ◌<◌, length, set, Some, None, Ok, true, arith, ap, sym, ◌∙◌, refl}
+use Rattle.std.proofs.Common.{◌≡◌, length, set, Some, None, Ok, arith, ap, ◌∙◌, refl}
 use Rattle.std.proofs.lemmas.List.{length-set}
 use Rattle.ob_model.specs.Descriptors.{Slots, slot_of, word_of}
 use Rattle.ob_away.specs.Slots.{Descriptors}

@@ -1,7 +1,7 @@
-use Rattle.std.proofs.Common.{◌≡◌, length, ap, sym, ◌∙◌, arith}
+use Rattle.std.proofs.Common.{◌≡◌, length, ap, ◌∙◌, arith}
 use Rattle.std.proofs.lemmas.List.{length-map}
 use Rattle.ob_model.specs.Descriptors.{Slots}
-use Rattle.ob_away.specs.Slots.{Descriptors, without}
+use Rattle.ob_away.specs.Slots.{Descriptors}
 use Rattle.ob_away.proofs.Changes.{IsInterned-without, IsIndexed-without}
 use Rattle.ob_away.proofs.Linked.{IsLinked-without}
 use Rattle.ob_away.proofs.table.AwayTable.forget.Goals as goal
