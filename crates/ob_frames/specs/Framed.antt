@@ -99,5 +99,8 @@ word_at f index = top_base f.calls + 8 * index
 abbrev pub top_locals : Framed → List LocalRow
 top_locals f = (top_function f.functions f.calls).locals
 
+abbrev pub top_local : Framed → ℕ → LocalRow
+top_local f row = local_at (top_function f.functions f.calls) row
+
 abbrev pub local_base : Framed → ℕ → ℕ
-local_base f row = top_base f.calls + (local_at (top_function f.functions f.calls) row).place
+local_base f row = top_base f.calls + (top_local f row).place

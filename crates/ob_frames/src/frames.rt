@@ -5,8 +5,8 @@ ghost use Rattle.ob_flat.specs.Memory.{IsIn, field, with_field, with_zeros};
 ghost use Rattle.ob_code.specs.Accesses.{read_memory, write_memory};
 ghost use Rattle.ob_code.specs.Frames.{function_at};
 ghost use Rattle.ob_code.specs.Layout.{static_base};
-ghost use Rattle.ob_code.specs.Rules.{HasStatic};
-ghost use Rattle.ob_frames.specs.Framed.{framed, cleared, local_base, top_locals, top_words, word_at, Enters, HasNoCall, IsRefused, IsTop, Leaves};
+ghost use Rattle.ob_code.specs.Rules.{HasStatic, static_at};
+ghost use Rattle.ob_frames.specs.Framed.{framed, cleared, local_base, top_local, top_locals, top_words, word_at, Enters, HasNoCall, IsRefused, IsTop, Leaves};
 ghost use Rattle.ob_frames.specs.Kept.{IsFramed};
 ghost use Rattle.ob_frames.specs.Links.{LinksAreKept, MeetsNoLink};
 ghost use Rattle.ob_frames.specs.Writes.{WritesWord};
@@ -17,7 +17,7 @@ use crate::rows::{copy_rows, row_of};
 use crate::writing::{write_granule, zero_bytes};
 use ob_access::read_memory;
 use ob_base::NoMemory;
-use ob_code::{FunctionRow, Rows, Verified, frame_length};
+use ob_code::{FunctionRow, LocalRow, Rows, Verified, frame_length};
 use ob_flat::Flat;
 use ob_model::LoadKind;
 use ob_statics::Statics;
@@ -30,6 +30,12 @@ const STACK_BYTES: u64 = 1_048_576;
 
 // No more calls are in progress at a time, since each takes 16 bytes of the stack at least.
 const MOST_CALLS: usize = 65_536;
+
+const NO_LOCAL: LocalRow = LocalRow {
+    ordinal: 0,
+    place: 0,
+    size: 0,
+};
 
 /// The answer of `Frames::enter` where the stack has no room for the call.
 #[derive(Clone, Copy, Debug, PartialEq, Eq)]
@@ -185,13 +191,36 @@ impl Frames {
         requires { row < length (top_locals self.now) }
         ensures { result ≡ local_base self.now row }
     {
+        top_base(self.calls.as_slice()) + self.local_row(row).place
+    }
+
+    /// A local row of the innermost call's function.
+    pub fn local_row(&self, row: u32) -> LocalRow
+        requires { row < length (top_locals self.now) }
+        ensures { result ≡ top_local self.now row }
+    {
         match self.calls.last() {
             Some(call) => {
                 let function = row_of(self.functions.as_slice(), call.function);
-                call.base + function.locals.as_slice()[row as usize].place
+                function.locals.as_slice()[row as usize]
             }
-            None => 0,
+            None => NO_LOCAL,
         }
+    }
+
+    /// How many static objects the image has.
+    pub fn statics(&self) -> u32
+        ensures { result ≡ length self.now.statics }
+    {
+        self.statics.len()
+    }
+
+    /// The size in bytes of a static object, numbered from 1.
+    pub fn static_size(&self, number: u32) -> u64
+        requires { HasStatic self.now.statics number }
+        ensures { result ≡ (static_at self.now.statics (number - 1)).size }
+    {
+        self.statics.size(number)
     }
 
     /// The address of a static object, numbered from 1.
@@ -200,13 +229,6 @@ impl Frames {
         ensures { result ≡ static_base self.now.statics number }
     {
         self.statics.base(number)
-    }
-
-    /// The static objects of the image.
-    pub fn statics(&self) -> &Statics
-        ensures { result.now ≡ record { statics = self.now.statics; pointers = self.now.pointers } }
-    {
-        &self.statics
     }
 
     /// A word of the innermost call's frame, counted from 0. The frame has more than `index` words.

@@ -66,10 +66,10 @@ impl Statics {
     }
 
     /// How many static objects there are.
-    pub fn len(&self) -> usize
+    pub fn len(&self) -> u32
         ensures { result ≡ length self.now.statics }
     {
-        self.rows.as_slice().len()
+        self.rows.as_slice().len() as u32
     }
 
     /// The bytes that the blocks of all static objects take.
