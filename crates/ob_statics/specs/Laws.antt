@@ -1,7 +1,8 @@
 -- Laws above the definitions.
-use Rattle.std.specs.Prelude.{◌≡◌, ℕ, ◌+◌, List, [], length}
+use Rattle.std.specs.Prelude.{◌≡◌, ℕ, ◌+◌, ◌≤◌, List, [], length}
 use Rattle.ob_model.specs.declared.settings.RunSettings.{RunSettings}
-use Rattle.ob_flat.specs.Memory.{zeroed}
+use Rattle.ob_model.specs.Limits.{most_heap_bytes, most_static_bytes, stack_bytes}
+use Rattle.ob_flat.specs.Memory.{IsLaidOut, zeroed}
 use Rattle.ob_code.specs.declared.image.PointerRow.{PointerRow}
 use Rattle.ob_code.specs.declared.image.StaticRow.{StaticRow}
 use Rattle.ob_code.specs.Layout.{static_blocks}
@@ -26,3 +27,8 @@ abbrev pub LaidOutIsStatic : Type 0
 LaidOutIsStatic =
     (stack : ℕ) (statics : List StaticRow) (pointers : List PointerRow) (settings : RunSettings) →
     laid_out stack statics pointers settings ≡ first_space stack statics pointers settings
+
+-- zero bytes are a memory
+abbrev pub ZeroedIsLaidOut : Type 0
+ZeroedIsLaidOut =
+    (statics stack heap : ℕ) → statics ≤ most_static_bytes → stack ≤ stack_bytes → heap ≤ most_heap_bytes → IsLaidOut (zeroed statics stack heap)

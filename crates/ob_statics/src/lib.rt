@@ -8,12 +8,12 @@
 //! definition of how an image starts.
 #![tactic(auto)]
 
-pub use laws::law_laid_out;
+pub use laws::{law_laid_out, law_zeroed};
 pub use statics::Statics;
 
 mod bases;
 mod bytes;
 mod laws;
 mod statics;
-
-
+#[cfg(test)]
+mod tests;

@@ -4,12 +4,11 @@ ghost use Rattle.ob_code.specs.Layout.{static_base, static_blocks};
 ghost use Rattle.ob_code.specs.Limits.{most_statics, most_pointers};
 ghost use Rattle.ob_code.specs.Rules.{AreSound, HasStatic, IsPointerSound, IsStaticSound, pointer_at, static_at};
 ghost use Rattle.ob_code.specs.Start.{with_pointer, with_pointers};
-ghost use Rattle.ob_statics.specs.Contents.{static_memory, with_given};
+ghost use Rattle.ob_statics.specs.Contents.{static_memory};
 ghost use Rattle.ob_statics.specs.Held.{KeepsRanges};
-ghost use Rattle.ob_model.specs.Limits.{statics_start};
 
 use crate::bases::{STATICS_START, bases_of, copy_rows};
-use crate::bytes::{put_bytes, put_pointer};
+use crate::bytes::{lay_bytes, put_pointer};
 use ob_base::NoMemory;
 use ob_code::{PointerRow, Rows, StaticRow};
 use ob_flat::Flat;
@@ -104,19 +103,8 @@ impl Statics {
         ensures memory { flat.new ≡ static_memory self.now.statics self.now.pointers flat.old }
         ensures ranges { KeepsRanges flat.old flat.new }
     {
-        self.lay_bytes(flat);
+        lay_bytes(flat, self.rows.as_slice(), self.bases.as_slice());
         self.lay_pointers(flat);
-    }
-
-    fn lay_bytes(&self, flat: &mut Flat)
-        requires laid_out { IsLaidOut flat.old }
-        requires statics { flat.old.statics ≡ static_blocks self.now.statics }
-        ensures memory { flat.new ≡ with_given statics_start self.now.statics flat.old }
-        ensures ranges { KeepsRanges flat.old flat.new }
-    {
-        for i in 0..self.rows.as_slice().len() {
-            put_bytes(flat, self.bases[i], self.rows.as_slice()[i].given.bytes());
-        }
     }
 
     fn lay_pointers(&self, flat: &mut Flat)
