@@ -70,5 +70,5 @@ IsKnownPointee entries p = Contains entries (record { entry = p.entry; freed = p
 pub record IsAt (base object : ℕ) (p : Pointing) : Type 0 where
   pub k : Known
   pub known : Contains p.entries k
-  pub base : k.entry.base ≡ base
+  pub there : k.entry.base ≡ base
   pub number : k.entry.object ≡ object

@@ -13,12 +13,12 @@ ghost use Rattle.ob_objects.specs.Objects.{AreApart};
 ghost use Rattle.ob_access.specs.Pointees.{target_of};
 ghost use Rattle.ob_access.specs.Shifts.{IsNear};
 ghost use Rattle.ob_pointers.specs.Pointing.{Shifts, IsSound, IsHeapPlace, IsAt, IsKnownPointee, target_in, pointer_in};
-ghost use Rattle.ob_pointers.specs.Placing.{Places, IsSlotted, IsMoveOf};
+ghost use Rattle.ob_pointers.specs.Placing.{Places, IsSlotted, IsMoveOf, as_answer};
 
 use crate::freed::{no_marks, set_mark};
 use crate::named::named;
 use ob_access::{Pointee, Shift, difference, is_in_order, shift_to};
-use ob_away::AwayTable;
+use ob_away::{AwayTable, Full};
 use ob_base::NoMemory;
 use ob_model::Entry;
 use ob_objects::ObjectTable;
@@ -198,10 +198,16 @@ impl Pointers {
         let Some(pointee) = pointer else {
             return Ok(0);
         };
-        match self.away.word_for(pointee.entry.base, offset) {
-            Ok(w) => Ok(w),
-            Err(_) => Err(ShiftAnswer::Full),
-        }
+        answered(self.away.word_for(pointee.entry.base, offset))
+    }
+}
+
+fn answered(word: Result<u64, Full>) -> Result<u64, ShiftAnswer>
+    ensures { result ≡ as_answer word }
+{
+    match word {
+        Ok(w) => Ok(w),
+        Err(Full) => Err(ShiftAnswer::Full),
     }
 }
 

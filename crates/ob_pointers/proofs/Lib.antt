@@ -1,0 +1,5 @@
+pub mod Lists
+pub mod Known
+pub mod Renaming
+pub mod Sound
+pub mod Slotting
