@@ -3,3 +3,5 @@ pub mod Known
 pub mod Renaming
 pub mod Sound
 pub mod Slotting
+pub mod Marks
+pub mod Entering

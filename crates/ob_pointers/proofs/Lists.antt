@@ -118,6 +118,12 @@ module _ {X Y : Type 0} where
       ap (λ (y : Y). y ∷ map f xs) (same x (here x xs))
       ∙ ap (λ (ys : List Y). g x ∷ ys) (map_agree f g xs (λ z at. same z (later x xs z at)))
 
+  pub map_twice : {Z : Type 0} (f : Y → Z) (g : X → Y) (h : X → Z) (xs : List X) → ((x : X) → Contains xs x → f (g x) ≡ h x) → map f (map g xs) ≡ map h xs
+  map_twice f g h [] same = refl
+  map_twice {Z} f g h (x ∷ xs) same =
+      ap (λ (z : Z). z ∷ map f (map g xs)) (same x (here x xs))
+      ∙ ap (λ (zs : List Z). h x ∷ zs) (map_twice f g h xs (λ y at. same y (later x xs y at)))
+
   pub among_mapped : (f : X → Y) (xs : List X) (x : X) → Contains xs x → Contains (map f xs) (f x)
   among_mapped f [] x among = absurd (nothing_in x among)
   among_mapped f (y ∷ ys) x among =

@@ -1,0 +1,2 @@
+use Rattle.ob_pointers.proofs.Entering.{kept_entered}
+use Rattle.ob_pointers.proofs.pointers.Pointers.insert.Goals as goal
