@@ -9,9 +9,10 @@ use Rattle.ob_model.specs.declared.objects.Entry.{Entry}
 use Rattle.ob_model.specs.Descriptors.{Pair, Slots}
 use Rattle.ob_model.specs.Entries.{Known, with_entry, with_known, with_live, entries_of}
 use Rattle.ob_model.specs.Ordered.{before_or_after}
-use Rattle.ob_objects.specs.Objects.{Precedes, AreApart, IsInOrder}
-use Rattle.ob_pointers.specs.Pointing.{IsHeapPlace}
-use Rattle.ob_pointers.specs.Kept.{IsKept, Begins, HaveTwoNumbers, known, known_in, is_marked, numbered, number_at, slots_in}
+use Rattle.ob_away.specs.Slots.{Descriptors}
+use Rattle.ob_objects.specs.Objects.{Objects, Precedes, AreApart, IsInOrder}
+use Rattle.ob_pointers.specs.Pointing.{Pointing, IsHeapPlace}
+use Rattle.ob_pointers.specs.Kept.{IsKept, Begins, HaveTwoNumbers, known, known_in, is_marked, numbered, number_at, slots_in, pointing_in}
 use Rattle.ob_pointers.proofs.Lists.{here, later, here_or_later, all_from, map_agree, map_twice, among_mapped}
 use Rattle.ob_pointers.proofs.Known.{number_at_its_base}
 use Rattle.ob_pointers.proofs.Marks.{unmarked}
@@ -23,9 +24,6 @@ first e f fs less = ap (λ b. before_or_after b e f fs (with_entry e fs)) (lt-lt
 
 behind : (e f : Entry) (fs : List Entry) → f.base ≤ e.base → with_entry e (f ∷ fs) ≡ f ∷ with_entry e fs
 behind e f fs more = ap (λ b. before_or_after b e f fs (with_entry e fs)) (le-ltb e.base f.base more)
-
-abbrev Has : Entry → List Entry → Type 0
-Has x es = Contains es x
 
 pub among_entered : (e : Entry) (entries : List Entry) (x : Entry) → Contains (with_entry e entries) x → (e ≡ x) ⊎ Contains entries x
 among_entered e [] x among = here_or_later e [] x among
@@ -152,3 +150,27 @@ module _ (e : Entry) (entries : List Entry) (marks : List Bool) (slots : Slots) 
       ∙ ap (λ b. with_known (record { entry = e; freed = b }) (known_in marks entries))
       (unmarked entries marks slots heap kept e.base (λ above. (may.place above).0)
       (λ begins. let there = begins.there in ⊎_elim (λ p. let q : Precedes e begins.entry = p in omega arith) (λ p. let q : Precedes begins.entry e = p in omega arith) (may.apart begins.entry begins.among)))
+
+-- ---- the call
+
+-- what the call asks, of what callers see
+pub record Asks (e : Entry) (p : Pointing) : Type 0 where
+  pub apart : All (AreApart e) (entries_of p.entries)
+  pub number : All (λ k. k.entry.object ≢ e.object) p.entries
+  pub end : e.base + e.size < 2 ^ 63
+  pub place : IsHeapPlace p.heap e
+
+pub may_enter : (e : Entry) (objects : Objects) (marks : List Bool) (away : Descriptors) (heap : ℕ) → Asks e (pointing_in objects marks away heap) → MayEnter e objects.entries heap
+may_enter e objects marks away heap asks = record {
+  apart = λ f at. All-contains (AreApart e) (entries_of (known_in marks objects.entries)) f asks.apart (subst (λ (es : List Entry). Contains es f) (sym (entries_known marks objects.entries)) at);
+  number = λ f at. All-contains (λ (k : Known). k.entry.object ≢ e.object) (known_in marks objects.entries) (known marks f) asks.number (among_mapped (known marks) objects.entries f at);
+  end = asks.end;
+  place = asks.place;
+}
+
+pub pointing_entered : (e : Entry) (old new : Objects) (marks : List Bool) (away : Descriptors) (heap : ℕ) → IsKept old.entries marks away.slots heap → MayEnter e old.entries heap → new.entries ≡ with_entry e old.entries → new.most ≡ old.most → pointing_in new marks away heap ≡ record (pointing_in old marks away heap) { entries = with_live e (known_in marks old.entries) }
+pointing_entered e old new marks away heap kept may entries most =
+    ap (λ (es : List Entry). record { most = new.most; away = away.limit; heap = heap; entries = known_in marks es; slots = slots_in es away.slots }) entries
+    ∙ ap (λ n. record { most = n; away = away.limit; heap = heap; entries = known_in marks (with_entry e old.entries); slots = slots_in (with_entry e old.entries) away.slots }) most
+    ∙ ap (λ (ks : List Known). record { most = old.most; away = away.limit; heap = heap; entries = ks; slots = slots_in (with_entry e old.entries) away.slots }) (live_entered e old.entries marks away.slots heap kept may)
+    ∙ ap (λ (slots : Slots). record { most = old.most; away = away.limit; heap = heap; entries = with_live e (known_in marks old.entries); slots = slots }) (slots_entered e old.entries marks away.slots heap kept may)

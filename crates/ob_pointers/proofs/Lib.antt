@@ -5,3 +5,4 @@ pub mod Sound
 pub mod Slotting
 pub mod Marks
 pub mod Entering
+pub mod Leaving

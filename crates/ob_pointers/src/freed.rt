@@ -29,8 +29,8 @@ pub(crate) fn is_marked(marks: &[bool], base: u64) -> bool
 }
 
 /// Says whether the object that begins at `base` was freed; nothing changes outside of the heap.
-pub(crate) fn set_mark(marks: &mut [bool], base: u64, freed: bool)
-    ensures { marks.new ≡ with_mark marks.old base freed }
+pub(crate) fn set_mark(marks: &mut Vec<bool>, base: u64, freed: bool)
+    ensures { marks.new.items ≡ with_mark marks.old.items base freed }
 {
     if base < HEAP_START {
         return;

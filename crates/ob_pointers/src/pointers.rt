@@ -155,7 +155,7 @@ impl Pointers {
         ensures { self.new ≡ record self.old { entries = surviving_known (λ other. other == object) self.old.entries; slots = surviving_pairs (λ other. other == object) self.old.slots } }
     {
         let _ = self.objects.remove(base);
-        set_mark(self.freed.as_mut_slice(), base, false);
+        set_mark(&mut self.freed, base, false);
         self.away.forget(base);
     }
 
@@ -165,7 +165,7 @@ impl Pointers {
         requires heap { heap_start ≤ base }
         ensures { self.new ≡ record self.old { entries = with_freed object self.old.entries } }
     {
-        set_mark(self.freed.as_mut_slice(), base, true);
+        set_mark(&mut self.freed, base, true);
     }
 
     // The word of a pointer that goes there.
