@@ -1,16 +1,18 @@
 -- The bytes of local objects lie in frames behind the link words.
-use Rattle.std.proofs.Common.{◌≡◌, ℕ, zero, suc, ◌+◌, ◌-◌, ◌<◌, ◌≤◌, ◌⊎◌, inl, inr, Some, slice_get, List, [], ◌∷◌, ◌++◌, length, arith, ap, subst, sym, ◌∙◌}
+use Rattle.std.proofs.Common.{◌≡◌, ℕ, zero, suc, ◌+◌, ◌-◌, ◌<◌, ◌≤◌, ◌⊎◌, inl, inr, Some, slice_get, List, [], ◌∷◌, ◌++◌, length, take, arith, ap, subst, sym, ◌∙◌}
 use Rattle.std.proofs.lemmas.Option.{slice_get-get_or}
+use Rattle.ob_words.specs.Words.{block}
 use Rattle.ob_flat.specs.Memory.{IsIn, IsWithin}
 use Rattle.ob_code.specs.declared.image.FunctionRow.{FunctionRow}
+use Rattle.ob_code.specs.declared.image.StaticRow.{StaticRow}
 use Rattle.ob_code.specs.Frames.{allowances, end_of, frame_length, function_at, local_end, locals_end, next_base, top_base, top_function}
-use Rattle.ob_code.specs.Layout.{no_local}
-use Rattle.ob_code.specs.Rules.{IsFrameSound, local_at}
+use Rattle.ob_code.specs.Layout.{no_local, static_blocks}
+use Rattle.ob_code.specs.Rules.{IsFrameSound, local_at, static_at}
 use Rattle.ob_code.specs.State.{Call}
 use Rattle.ob_frames.specs.Calls.{AreStacked}
 use Rattle.ob_frames.specs.Framed.{Framed}
 use Rattle.ob_frames.specs.Kept.{IsFramed}
-use Rattle.ob_frames.specs.Laws.{IsInLocal, LocalsLieInMemory, LocalsMeetNoLink, OthersMeetNoLink}
+use Rattle.ob_frames.specs.Laws.{IsInLocal, LocalsLieInMemory, LocalsMeetNoLink, OthersMeetNoLink, StaticsLieInMemory}
 use Rattle.ob_frames.specs.Links.{MeetsNoLink}
 use Rattle.ob_frames.proofs.CallLists.{AllRun, frame_is_long, frames_begin, frames_end, in_stack}
 
@@ -53,16 +55,18 @@ frame_before functions (d ∷ inner) c outer stacked = omega (arith, frame_befor
 
 meets_behind : (functions : List FunctionRow) (cs : List Call) (address n : ℕ) → AllRun functions → AreStacked functions cs → next_base functions cs ≤ address → MeetsNoLink cs address n
 meets_behind functions [] address n rows stacked order = tt
-meets_behind functions (d ∷ ds) address n rows stacked order =
-    (inr (omega (arith, frame_is_long (function_at functions d.function) (rows d.function stacked.0))),
-     meets_behind functions ds address n rows stacked.2 (omega (arith, stacked.1)))
+meets_behind functions (d ∷ ds) address n rows stacked order = (
+  inr (omega (arith, frame_is_long (function_at functions d.function) (rows d.function stacked.0))),
+  meets_behind functions ds address n rows stacked.2 (omega (arith, stacked.1)),
+)
 
 meets_from : (functions : List FunctionRow) (inner : List Call) (c : Call) (outer : List Call) (address n : ℕ) → AllRun functions → AreStacked functions (inner ++ c ∷ outer) → c.base + 16 ≤ address → address + n ≤ c.base + frame_length (function_at functions c.function) → MeetsNoLink (inner ++ c ∷ outer) address n
 meets_from functions [] c outer address n rows stacked low high =
     (inr low, meets_behind functions outer address n rows stacked.2 (omega (arith, stacked.1)))
-meets_from functions (d ∷ inner) c outer address n rows stacked low high =
-    (inl (omega (arith, frame_before functions inner c outer stacked.2, stacked.1)),
-     meets_from functions inner c outer address n rows stacked.2 low high)
+meets_from functions (d ∷ inner) c outer address n rows stacked low high = (
+  inl (omega (arith, frame_before functions inner c outer stacked.2, stacked.1)),
+  meets_from functions inner c outer address n rows stacked.2 low high,
+)
 
 meets_before : (functions : List FunctionRow) (cs : List Call) (address n : ℕ) → AreStacked functions cs → address + n ≤ 16777216 → MeetsNoLink cs address n
 meets_before functions [] address n stacked order = tt
@@ -100,3 +104,16 @@ pub local_small : (functions : List FunctionRow) (calls : List Call) (row : ℕ)
 local_small functions [] row rows stacked room h = absurd (omega arith)
 local_small functions (c ∷ cs) row rows stacked room h =
     omega (arith, frames_end functions (c ∷ cs) rows stacked, local_in_frame (function_at functions c.function) row (rows c.function stacked.0) h)
+
+-- ---- static objects
+
+by_steps : (rows : List StaticRow) (i : ℕ) → i < length rows → static_blocks (take i rows) + block (static_at rows i).size ≤ static_blocks rows
+by_steps [] i h = absurd (omega arith)
+by_steps (r ∷ rs) zero h = omega arith
+by_steps (r ∷ rs) (suc i) h = omega (arith, by_steps rs i (omega arith))
+
+pub statics_lie : StaticsLieInMemory
+statics_lie f number address n framed exists low high = record {
+  begins = omega (arith, low);
+  ends = omega (arith, high, framed.static_bytes, by_steps f.statics (number - 1) (omega (arith, exists.0, exists.1)));
+}

@@ -22,3 +22,6 @@ pub returns-clause-links : goal.returns-clause-links
 returns-clause-links c =
     rw (← c.self.view_is)
     (keeps_links (calls_in c.self.inside.flat c.self.inside.calls.items) (calls_in c.write_granule.new.flat c.self.inside.calls.items) c.write_granule.new.flat (linked c))
+
+pub returns-clause-ranges : goal.returns-clause-ranges
+returns-clause-ranges c = rw (← c.self.view_is) c.write_granule.ensures.ranges
