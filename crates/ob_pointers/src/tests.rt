@@ -3,19 +3,12 @@ use ShiftAnswer::{Far, Full};
 use ob_model::{Entry, Sort};
 use std::test::Fail;
 
-/// A static object of ten bytes, and one of sixteen on the heap.
+/// A static object of ten bytes.
 const BUFFER: Entry = Entry {
     base: 4096,
     size: 10,
     object: 7,
     sort: Sort::Static,
-};
-
-const BLOCK: Entry = Entry {
-    base: 0x0200_0010,
-    size: 16,
-    object: 8,
-    sort: Sort::Heap,
 };
 
 // Words moved by displacements, in turn, where two pointers may be out of bounds.
@@ -43,29 +36,5 @@ fn pointers_that_leave_and_come_back(rt: HostRuntime) -> Result<(), Fail> {
     for (w, displacement, answer) in &MOVES {
         assert_eq!(rt; pointers.shift(*w, *displacement), *answer);
     }
-    Ok(())
-}
-
-#[test]
-fn a_death_frees_slots(rt: HostRuntime) -> Result<(), Fail> {
-    let mut pointers = Pointers::new(rt.alloc(), 2, 64, 2)?;
-    pointers.insert(BUFFER);
-    pointers.insert(BLOCK);
-    assert_eq!(rt; pointers.shift(4096, 100), Ok(0x100_0000_0000));
-    assert_eq!(rt; pointers.shift(0x0200_0010, -1), Ok(0x100_0000_0010));
-    pointers.die(4096, 7);
-    assert!(rt; pointers.resolve(0x100_0000_0000).is_none());
-    assert_eq!(rt; pointers.shift(0x0200_0010, 17), Ok(0x100_0000_0000));
-    Ok(())
-}
-
-#[test]
-fn a_freed_object_is_known_and_moves(rt: HostRuntime) -> Result<(), Fail> {
-    let mut pointers = Pointers::new(rt.alloc(), 2, 64, 2)?;
-    pointers.insert(BLOCK);
-    pointers.free(0x0200_0010, 8);
-    assert_eq!(rt; pointers.resolve(0x0200_0018).map(|p| p.freed), Some(true));
-    assert_eq!(rt; pointers.shift(0x0200_0010, 17), Ok(0x100_0000_0000));
-    assert_eq!(rt; pointers.shift(0x100_0000_0000, -17), Ok(0x0200_0010));
     Ok(())
 }
