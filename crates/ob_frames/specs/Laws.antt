@@ -90,8 +90,8 @@ StaticsLieInMemory =
 
 -- ---- links through several changes
 
--- what keeps the links of some calls keeps those of the calls around them; and what is left later than some calls were left,
--- or not at all, was in progress before them as well
+-- a change after calls were entered keeps the links of the calls around those; a change after calls were left, which enters no
+-- more than it leaves, keeps the links of all earlier calls that are still in progress
 abbrev pub KeptOnceEntered : Type 0
 KeptOnceEntered =
     (entered before after : List Call) (m : Memory) →
