@@ -1,0 +1,4 @@
+pub mod Members
+pub mod Tables
+pub mod Heaps
+pub mod Rooms
