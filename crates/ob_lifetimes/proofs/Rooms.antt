@@ -1,5 +1,6 @@
 -- That there is room for one more object: in the table, and in the heap beside the others.
-use Rattle.std.proofs.Common.{◌≡◌, ℕ, zero, suc, ◌+◌, ◌-◌, ◌*◌, ◌/◌, ◌%◌, ◌<◌, ◌≤◌, ◌⊎◌, List, [], ◌∷◌, length, map, arith, refl, sym, ap, ◌∙◌, subst, inl, inr, ⊎_elim}
+use Rattle.std.proofs.Common.{◌≡◌, ℕ, zero, suc, ◌+◌, ◌-◌, ◌*◌, ◌/◌, ◌%◌, ◌<◌, ◌≤◌, ◌⊎◌, List, [], ◌∷◌, length, map, arith, refl, sym, ap, ◌∙◌, subst, inl, inr, ⊎_elim, Option, Some}
+use Rattle.std.specs.Prelude.{MatchOption}
 use Rattle.std.specs.List.{All, AllPairs, Contains}
 use Rattle.std.proofs.lemmas.Bool.{cases_eq, cases_lt}
 use Rattle.std.proofs.lemmas.List.Elements.{All-cons, All-contains, All-head, All-map, All-tail, All-weaker}
@@ -8,7 +9,8 @@ use Rattle.ob_model.specs.declared.objects.Entry.{Entry}
 use Rattle.ob_model.specs.declared.objects.Sort.{Sort}
 use Rattle.ob_model.specs.declared.objects.Sort.TheVariants.{Static, Automatic, Heap}
 use Rattle.ob_model.specs.Entries.{Known, entries_of}
-use Rattle.ob_model.specs.Heap.{Allocated, Apart, Block, block_of, blocks_of}
+use Rattle.ob_model.specs.Heap.{Allocated, Apart, Block, Fits, IsFirstFit, block_of, blocks_of, heap_place}
+use Rattle.ob_model.specs.Laws.{HeapIsFirstFit}
 use Rattle.ob_model.specs.Limits.{heap_start}
 use Rattle.ob_objects.specs.Objects.{AreApart}
 use Rattle.ob_pointers.specs.Pointing.{EndsBefore}
@@ -135,6 +137,12 @@ room_elsewhere heap ks order lie =
     omega (arith, most)
 
 -- ---- beside the others
+
+pub first_fit : HeapIsFirstFit → (blocks : List Block) (heap size place : ℕ) → Some place ≡ heap_place blocks heap size → Fits blocks heap size place
+first_fit law blocks heap size place is =
+    let M : Option ℕ → Type 0 = λ o. MatchOption o ((q : ℕ) → ¬ Fits blocks heap size q) (IsFirstFit blocks heap size) in
+    let first : M (Some place) = subst M (sym is) (law blocks heap size) in
+    first.fits
 
 -- an object of the heap meets none, where its block meets none
 beside : (s : Sort) (heap place n object : ℕ) (k : Known) → PlacedBySort s heap k → (s ≡ Heap → Apart place (block n) (block_of (allocated k.entry))) → AreApart (in_heap (heap_start + place) n object) k.entry

@@ -39,6 +39,7 @@ impl Lifetimes {
         requires room { All (IsBeside base first row) self.old.entries }
         ensures { self.new ≡ record self.old { entries = with_live (local_entry base first row) self.old.entries; locals = self.old.locals + 1 } }
     {
+        self.pointers.stands();
         self.locals += 1;
         self.pointers.insert(Entry {
             base: base + row.place,

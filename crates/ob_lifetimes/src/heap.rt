@@ -35,6 +35,7 @@ impl Lifetimes {
     {
         law_first_fit();
         law_heap_blocks();
+        self.pointers.stands();
         let place = self.shelf.take(n)?;
         let object = self.next;
         self.next += 1;

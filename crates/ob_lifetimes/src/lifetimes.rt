@@ -116,6 +116,7 @@ impl Lifetimes {
         requires next { self.old.next < 2 ^ 63 }
         ensures { self.new ≡ record self.old { statics = self.old.statics + 1; entries = with_live (record { base = base; size = size; object = self.old.next; sort = Static }) self.old.entries; next = self.old.next + 1 } }
     {
+        self.pointers.stands();
         let object = self.next;
         self.statics += 1;
         self.next += 1;
