@@ -5,3 +5,6 @@ pub mod Rooms
 pub mod Keeping
 pub mod Moving
 pub mod Sounding
+pub mod Frames
+pub mod Entering
+pub mod Leaving

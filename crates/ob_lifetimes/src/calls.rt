@@ -9,7 +9,7 @@ ghost use Rattle.ob_code.specs.Frames.{frame_length, local_entry, with_locals};
 ghost use Rattle.ob_code.specs.Rules.{IsFrameSound};
 ghost use Rattle.ob_standing.specs.Laws.{IsGivenOut};
 ghost use Rattle.ob_lifetimes.specs.Living.{AreKnown, AreOfRows, Dies, LiesOutside};
-ghost use Rattle.ob_lifetimes.specs.Kept.{CellHasNumber, IsBeside, PairHasNumber};
+ghost use Rattle.ob_lifetimes.specs.Kept.{CellHasNumber, IsBeside, PairHasNumber, heap_blocks};
 
 use crate::Lifetimes;
 use ob_code::{FunctionRow, LocalRow};
@@ -67,10 +67,11 @@ impl Lifetimes {
         }
     }
 
-    // Does nothing; slots and outside granules are of objects that are known.
-    fn law_numbers(&self)
+    // Does nothing; slots and outside granules are of objects that are known, and the heap's list is theirs.
+    fn law_tables(&self)
         ensures slots { All (PairHasNumber self.now.entries) self.now.slots }
         ensures outside { All (CellHasNumber self.now.entries) self.now.outside }
+        ensures blocks { self.now.blocks ≡ heap_blocks self.now.entries }
     {
         let _ = &self.next;
     }
@@ -97,7 +98,7 @@ impl Lifetimes {
         requires few { length row.now.locals ≤ self.old.locals }
         ensures { Dies (is_among first row.now.vars) (length row.now.locals) self.old self.new }
     {
-        self.law_numbers();
+        self.law_tables();
         for local in row.locals.as_slice() {
             self.end_local(base, first, *local);
         }
