@@ -24,7 +24,7 @@ pub record IsEntering (base first : ℕ) (f : FunctionRow) (i : ℕ) (old new : 
   pub objects : new ≡ with_rows base first f.locals i old
   pub room : (j : ℕ) → i ≤ j → j < length f.locals → All (IsBeside base first (local_at f j)) new.entries
 
-abbrev one_more : ℕ → ℕ → LocalRow → Living → Living
+abbrev pub one_more : ℕ → ℕ → LocalRow → Living → Living
 one_more base first r old = record old { entries = with_live (local_entry base first r) old.entries; locals = old.locals + 1 }
 
 pub IsEntering-none : (base first : ℕ) (f : FunctionRow) (old : Living) → IsFrameSound f → All (LiesOutside base (base + frame_length f)) old.entries → All (IsGivenOut first) old.entries → IsEntering base first f 0 old old

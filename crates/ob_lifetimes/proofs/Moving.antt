@@ -1,6 +1,6 @@
 -- Slots, once a pointer is moved, and granules, once they are read or written: they are of objects that are known.
-use Rattle.std.proofs.Common.{◌≡◌, ℕ, ◌<◌, ◌==◌, Bool, true, false, cond, nat_lt, ℤ, ◌+ℤ◌, Option, Some, None, Result, Ok, Err, List, [], ◌∷◌, ◌++◌, refl, sym, ap, ◌∙◌, subst, ⊎_elim}
-use Rattle.std.specs.Prelude.{OnErr}
+use Rattle.std.proofs.Common.{◌≡◌, ℕ, ◌<◌, ◌==◌, Bool, true, false, cond, nat_lt, ℤ, ◌+ℤ◌, Option, Some, None, Result, Ok, Err, List, [], ◌∷◌, ◌++◌, refl, sym, ap, ◌∙◌, subst, inl, inr, ⊎_elim}
+use Rattle.std.specs.Prelude.{◌⊎◌, OnErr, OnOk}
 use Rattle.std.specs.List.{All, Contains, find}
 use Rattle.std.specs.Option.{option_map}
 use Rattle.std.specs.Ordering.{int_eq}
@@ -148,3 +148,7 @@ module _ (ks : List Known) (object : ℕ) (granule : ℤ) (cells : Cells) (each 
   stored_cells cap cell has =
       All-take (CellHasNumber ks) cap (put_first object granule cell cells)
       (All-cons (CellHasNumber ks) (record { object = object; granule = granule; cell = cell }) (without_granule object granule cells) has others_have)
+
+pub either_way : {A E : Type 0} (r : Result A E) (P Q : Type 0) → OnOk r P → OnErr r Q → P ⊎ Q
+either_way (Ok x) P Q ok err = inl ok
+either_way (Err e) P Q ok err = inr err
