@@ -25,9 +25,10 @@ module _ (f : FunctionRow) (sound : IsFrameSound f) where
   step_up : (j : ℕ) → suc j < length f.locals → ((local_at f j).ordinal < (local_at f (suc j)).ordinal) × (local_end (local_at f j) ≤ (local_at f (suc j)).place)
   step_up j below =
       let back : suc j - 1 ≡ j = omega arith in
-      let one = sound.locals (suc j) below in
-      (subst (λ n. (local_at f n).ordinal < (local_at f (suc j)).ordinal) back (one.ordinals (omega arith)),
-      subst (λ n. local_end (local_at f n) ≤ (local_at f (suc j)).place) back (one.places (omega arith)))
+      let one = sound.locals (suc j) below in (
+        subst (λ n. (local_at f n).ordinal < (local_at f (suc j)).ordinal) back (one.ordinals (omega arith)),
+        subst (λ n. local_end (local_at f n) ≤ (local_at f (suc j)).place) back (one.places (omega arith)),
+      )
 
   -- numbers and places rise
   pub rows_rise : (i j : ℕ) → i < j → j < length f.locals → ((local_at f i).ordinal < (local_at f j).ordinal) × (local_end (local_at f i) ≤ (local_at f j).place)
@@ -66,9 +67,10 @@ module _ (f : FunctionRow) (sound : IsFrameSound f) where
       All-from_members (IsBeside base first (local_at f j)) ks (λ k among.
       let lies : LiesOutside base (base + frame_length f) k = All-contains (LiesOutside base (base + frame_length f)) ks k outside among in
       let out : IsGivenOut first k = All-contains (IsGivenOut first) ks k given among in
-      let within : local_end (local_at f j) ≤ frame_length f = rows_within j below in
-      (⊎_elim (λ before. inr (omega (arith, before))) (λ behind. inl (omega (arith, behind, within))) lies,
-      (λ same. omega (arith, same, out.2))))
+      let within : local_end (local_at f j) ≤ frame_length f = rows_within j below in (
+        ⊎_elim (λ before. inr (omega (arith, before))) (λ behind. inl (omega (arith, behind, within))) lies,
+        (λ same. omega (arith, same, out.2)),
+      ))
 
   -- and beside those of the rows before it
   pub beside_row : (base first i j : ℕ) → i < j → j < length f.locals → IsBeside base first (local_at f j) (record { entry = local_entry base first (local_at f i); freed = false })

@@ -27,15 +27,18 @@ lies_by_sort : (s : Sort) (heap : ℕ) (blocks : List Allocated) (k : Known) →
 lies_by_sort Static heap blocks k lies among = (lies.before, lies.live)
 lies_by_sort Automatic heap blocks k lies among = (lies.before, lies.live)
 lies_by_sort Heap heap blocks k lies among =
-    let start : heap_start ≤ k.entry.base = lies.start in
-    (allocated k.entry, among refl, record {
-      object = refl;
-      base = omega arith;
-      longer = omega arith;
-      within = lies.within;
-      multiple = lies.multiple;
-      whole = whole_block k.entry.size;
-    })
+    let start : heap_start ≤ k.entry.base = lies.start in (
+      allocated k.entry,
+      among refl,
+      record {
+        object = refl;
+        base = omega arith;
+        longer = omega arith;
+        within = lies.within;
+        multiple = lies.multiple;
+        whole = whole_block k.entry.size;
+      },
+    )
 
 module _ (p : Pointing) (shelf : Places) (o : Granules) (most statics locals next : ℕ) (kept : IsKept p shelf o most statics locals next) (sound : pointing.IsSound p) where
   pub sound_objects : (profile : Profile) → IsSound (living_in p shelf o profile most statics locals next)
