@@ -1,20 +1,18 @@
 -- The objects of a function's rows: that they lie apart in its frame, and that they are those that a call's numbers name.
-use Rattle.std.proofs.Common.{◌≡◌, ℕ, zero, suc, ◌+◌, ◌-◌, ◌*◌, ◌/◌, ◌<◌, ◌≤◌, ◌==◌, max, Bool, true, false, not, ◌||◌, ◌&&◌, cond, List, [], ◌∷◌, ◌++◌, length, get_or, take, map, Some, arith, refl, sym, ap, ◌∙◌, subst, inl, inr, ⊎_elim}
-use Rattle.std.specs.List.{All, Contains, filter, slice_get}
-use Rattle.std.proofs.lemmas.Bool.{and_from, cases_Bool, cases_eq, cases_lt, eq-eqb, eqb-true, false_from_ne_true, le-leb, lt-ltb, ne_eqb, or_cases, or_from, or_left, or_right}
-use Rattle.std.proofs.lemmas.List.{get_or-take, get_or_default, length-take-le, take_more}
-use Rattle.std.proofs.lemmas.List.Elements.{All-contains, All-weaker}
+use Rattle.std.proofs.Common.{◌≡◌, ℕ, zero, suc, ◌+◌, ◌-◌, ◌<◌, ◌≤◌, ◌==◌, Bool, true, false, ◌||◌, List, [], ◌∷◌, ◌++◌, length, take, map, arith, refl, sym, ap, ◌∙◌, subst, inl, inr, ⊎_elim}
+use Rattle.std.specs.List.{All, Contains, slice_get}
+use Rattle.std.proofs.lemmas.Bool.{and_from, cases_Bool, cases_eq, eq-eqb, eqb-true, false_from_ne_true, le-leb, lt-ltb, or_cases, or_left, or_right}
+use Rattle.std.proofs.lemmas.List.{get_or-take, get_or_default, length-take-le}
+use Rattle.std.proofs.lemmas.List.Elements.{All-contains}
 use Rattle.std.proofs.lemmas.Option.{slice_get-get_or}
-use Rattle.ob_words.specs.Words.{block}
 use Rattle.ob_model.specs.declared.objects.Entry.{Entry}
 use Rattle.ob_model.specs.Entries.{Known, with_live}
 use Rattle.ob_model.specs.Objects.{is_among}
 use Rattle.ob_code.specs.declared.image.FunctionRow.{FunctionRow}
 use Rattle.ob_code.specs.declared.image.LocalRow.{LocalRow}
-use Rattle.ob_code.specs.Frames.{end_of, frame_length, local_end, local_entry, locals_end, with_locals, words_end}
+use Rattle.ob_code.specs.Frames.{end_of, frame_length, local_end, local_entry, locals_end, with_locals}
 use Rattle.ob_code.specs.Layout.{no_local}
 use Rattle.ob_code.specs.Rules.{IsFrameSound, local_at}
-use Rattle.ob_objects.specs.Objects.{AreApart}
 use Rattle.ob_standing.specs.Laws.{IsGivenOut}
 use Rattle.ob_lifetimes.specs.Living.{AreOfRows, LiesOutside}
 use Rattle.ob_lifetimes.specs.Kept.{HasNumber, IsBeside}

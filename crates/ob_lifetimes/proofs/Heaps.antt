@@ -1,13 +1,13 @@
 -- The heap's list, once an object is made, dies or is freed.
-use Rattle.std.proofs.Common.{◌≡◌, ℕ, ◌+◌, ◌-◌, ◌<◌, ◌≤◌, ◌==◌, Bool, true, false, not, cond, nat_lt, List, [], ◌∷◌, arith, refl, sym, ap, ◌∙◌, subst, ⊎_elim}
+use Rattle.std.proofs.Common.{◌≡◌, ℕ, ◌+◌, ◌-◌, ◌<◌, ◌≤◌, ◌==◌, Bool, true, false, not, nat_lt, List, [], ◌∷◌, arith, refl, sym, ap, ◌∙◌, subst, ⊎_elim}
 use Rattle.std.specs.List.{All, Contains}
 use Rattle.std.proofs.lemmas.Bool.{cases_Bool, cases_lt, cond-false, cond-true, le-ltb, lt-ltb}
-use Rattle.std.proofs.lemmas.List.Elements.{All-cons, All-contains, All-head, All-nil, All-tail}
+use Rattle.std.proofs.lemmas.List.Elements.{All-cons, All-head, All-nil, All-tail}
 use Rattle.ob_words.specs.Words.{block}
 use Rattle.ob_model.specs.declared.objects.Entry.{Entry}
 use Rattle.ob_model.specs.declared.objects.Sort.{Sort}
 use Rattle.ob_model.specs.declared.objects.Sort.TheVariants.{Static, Automatic, Heap}
-use Rattle.ob_model.specs.Entries.{Known, freed_if, surviving_known, with_freed, with_known, with_live}
+use Rattle.ob_model.specs.Entries.{Known, surviving_known, with_freed, with_known}
 use Rattle.ob_model.specs.Heap.{Allocated, surviving_blocks, with_allocated}
 use Rattle.ob_model.specs.Limits.{heap_start}
 use Rattle.ob_model.specs.Ordered.{before_or_after}

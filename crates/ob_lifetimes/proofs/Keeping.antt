@@ -5,7 +5,6 @@ use Rattle.std.proofs.lemmas.Bool.{eqb-true}
 use Rattle.std.proofs.lemmas.List.Elements.{All-filter, All-map, All-weaker}
 use Rattle.ob_words.specs.Words.{block}
 use Rattle.ob_model.specs.declared.objects.Entry.{Entry}
-use Rattle.ob_model.specs.declared.objects.Sort.{Sort}
 use Rattle.ob_model.specs.declared.objects.Sort.TheVariants.{Heap}
 use Rattle.ob_model.specs.Bounded.{Listed, surviving_cells}
 use Rattle.ob_model.specs.Cells.{Content}
@@ -19,7 +18,7 @@ use Rattle.ob_pointers.specs.Pointing.{Pointing}
 use Rattle.ob_shelf.specs.Places.{Places}
 use Rattle.ob_standing.specs.Laws.{IsGivenOut}
 use Rattle.ob_lifetimes.specs.Kept.{CellHasNumber, IsKept, IsPlaced, IsPlacedKnown, PairHasNumber, PlacedBySort, elsewhere, heap_blocks, one_elsewhere}
-use Rattle.ob_lifetimes.proofs.Tables.{All-with_known, cells-kept, cells-survive, elsewhere-freed, elsewhere-survives, elsewhere-with_known, number-freed, number-more, pairs-kept, pairs-survive}
+use Rattle.ob_lifetimes.proofs.Tables.{All-with_known, cells-kept, cells-survive, elsewhere-freed, elsewhere-with_known, number-freed, number-more, pairs-kept, pairs-survive}
 use Rattle.ob_lifetimes.proofs.Heaps.{allocated, blocks-allocated, blocks-elsewhere, blocks-freed, in_heap}
 
 later_given : (next later : ℕ) → next ≤ later → (k : Known) → IsGivenOut next k → IsGivenOut later k

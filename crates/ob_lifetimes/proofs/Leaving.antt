@@ -1,5 +1,5 @@
 -- The objects of a call, gone row by row.
-use Rattle.std.proofs.Common.{◌≡◌, ℕ, ◌+◌, ◌-◌, ◌<◌, ◌≤◌, ◌==◌, Bool, true, false, not, ◌||◌, cond, Option, Some, None, List, ◌++◌, [], ◌∷◌, length, get_or, take, map, arith, refl, sym, ap, ◌∙◌, subst}
+use Rattle.std.proofs.Common.{◌≡◌, ℕ, ◌+◌, ◌-◌, ◌<◌, ◌≤◌, ◌==◌, Bool, true, false, not, ◌||◌, cond, Option, Some, None, List, [], ◌∷◌, length, get_or, take, map, arith, refl, sym, ap, ◌∙◌, subst}
 use Rattle.std.specs.List.{All, Contains, filter}
 use Rattle.std.proofs.lemmas.Bool.{cond-true}
 use Rattle.std.proofs.lemmas.List.{take_all, take_more}
@@ -15,8 +15,8 @@ use Rattle.ob_code.specs.declared.image.FunctionRow.{FunctionRow}
 use Rattle.ob_code.specs.declared.image.LocalRow.{LocalRow}
 use Rattle.ob_code.specs.Frames.{local_entry}
 use Rattle.ob_code.specs.Layout.{no_local}
-use Rattle.ob_code.specs.Rules.{IsFrameSound, local_at}
-use Rattle.ob_code.specs.State.{Space, after_death}
+use Rattle.ob_code.specs.Rules.{IsFrameSound}
+use Rattle.ob_code.specs.State.{after_death}
 use Rattle.ob_lifetimes.specs.Living.{AreOfRows, Dies, Living, with_living}
 use Rattle.ob_lifetimes.specs.Kept.{CellHasNumber, HasNumber, PairHasNumber, heap_blocks, one_elsewhere}
 use Rattle.ob_lifetimes.proofs.Frames.{is_row, is_row-push, numbers_agree}

@@ -1,5 +1,5 @@
 -- Slots, once a pointer is moved, and granules, once they are read or written: they are of objects that are known.
-use Rattle.std.proofs.Common.{◌≡◌, ℕ, ◌<◌, ◌==◌, Bool, true, false, cond, nat_lt, ℤ, ◌+ℤ◌, Option, Some, None, Result, Ok, Err, List, [], ◌∷◌, ◌++◌, refl, sym, ap, ◌∙◌, subst, inl, inr, ⊎_elim}
+use Rattle.std.proofs.Common.{◌≡◌, ℕ, ◌==◌, Bool, true, false, cond, nat_lt, ℤ, ◌+ℤ◌, Option, Some, None, Result, Ok, Err, List, [], ◌∷◌, refl, sym, ap, ◌∙◌, subst, inl, inr, ⊎_elim}
 use Rattle.std.specs.Prelude.{◌⊎◌, OnErr, OnOk}
 use Rattle.std.specs.List.{All, Contains, find}
 use Rattle.std.specs.Option.{option_map}
@@ -13,7 +13,7 @@ use Rattle.ob_model.specs.Descriptors.{Pair, Slots, free_slot, named_pair, pair_
 use Rattle.ob_model.specs.Entries.{Known, holds_address, known_at, known_of}
 use Rattle.ob_model.specs.Pointers as moves
 use Rattle.ob_model.specs.Pointers.{Moved, moved_by}
-use Rattle.ob_code.specs.Pointers.{Target, base_of, by_address, by_slot, found, into, new_slot, no_slot, nothing, placed, pointer_of, resolve, shift, Shifted, shifted, size_of, slot_for, too_far}
+use Rattle.ob_code.specs.Pointers.{Target, base_of, by_address, by_slot, found, into, no_slot, nothing, placed, pointer_of, resolve, shift, Shifted, shifted, size_of, slot_for, too_far}
 use Rattle.ob_code.specs.State.{Space}
 use Rattle.ob_pointers.specs.declared.pointers.ShiftAnswer.{ShiftAnswer}
 use Rattle.ob_pointers.specs.Pointing.{Pointing, Shifts, with_pointing}

@@ -1,15 +1,14 @@
 -- That there is room for one more object: in the table, and in the heap beside the others.
-use Rattle.std.proofs.Common.{◌≡◌, ℕ, zero, suc, ◌+◌, ◌-◌, ◌*◌, ◌/◌, ◌%◌, ◌<◌, ◌≤◌, ◌⊎◌, List, [], ◌∷◌, length, map, arith, refl, sym, ap, ◌∙◌, subst, inl, inr, ⊎_elim, Option, Some}
+use Rattle.std.proofs.Common.{◌≡◌, ℕ, suc, ◌+◌, ◌-◌, ◌*◌, ◌/◌, ◌%◌, ◌<◌, ◌≤◌, List, [], ◌∷◌, length, arith, refl, sym, ap, subst, inl, inr, ⊎_elim, Option, Some}
 use Rattle.std.specs.Prelude.{MatchOption}
 use Rattle.std.specs.List.{All, AllPairs, Contains}
 use Rattle.std.proofs.lemmas.Bool.{cases_eq, cases_lt}
 use Rattle.std.proofs.lemmas.List.Elements.{All-cons, All-contains, All-head, All-map, All-tail, All-weaker}
 use Rattle.ob_words.specs.Words.{block}
-use Rattle.ob_model.specs.declared.objects.Entry.{Entry}
 use Rattle.ob_model.specs.declared.objects.Sort.{Sort}
 use Rattle.ob_model.specs.declared.objects.Sort.TheVariants.{Static, Automatic, Heap}
 use Rattle.ob_model.specs.Entries.{Known, entries_of}
-use Rattle.ob_model.specs.Heap.{Allocated, Apart, Block, Fits, IsFirstFit, block_of, blocks_of, heap_place}
+use Rattle.ob_model.specs.Heap.{Apart, Block, Fits, IsFirstFit, block_of, blocks_of, heap_place}
 use Rattle.ob_model.specs.Laws.{HeapIsFirstFit}
 use Rattle.ob_model.specs.Limits.{heap_start}
 use Rattle.ob_objects.specs.Objects.{AreApart}

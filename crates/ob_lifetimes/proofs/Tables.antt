@@ -1,13 +1,11 @@
 -- Objects that are known, once there is one more, or some are gone, or one is freed: their members, and how many lie elsewhere than
 -- in the heap.
-use Rattle.std.proofs.Common.{◌≡◌, ℕ, ◌+◌, ◌<◌, ◌≤◌, ◌==◌, Bool, true, false, not, cond, nat_lt, get_or, Option, Some, None, List, [], ◌∷◌, map, arith, refl, sym, ap, ◌∙◌, subst, ⊎_elim}
+use Rattle.std.proofs.Common.{◌≡◌, ℕ, ◌+◌, ◌≤◌, ◌==◌, Bool, true, false, not, cond, nat_lt, get_or, Option, Some, None, List, [], ◌∷◌, arith, refl, sym, ap, ◌∙◌, subst, ⊎_elim}
 use Rattle.std.specs.List.{All, AllPairs, Contains}
 use Rattle.std.proofs.lemmas.Bool.{cases_order, cond_both, not_from_false, not-true}
 use Rattle.std.proofs.lemmas.List.{get_or_default}
 use Rattle.std.proofs.lemmas.List.Elements.{All-cons, All-head, All-map, All-nil, All-tail, All-weaker}
 use Rattle.ob_model.specs.declared.objects.Entry.{Entry}
-use Rattle.ob_model.specs.declared.objects.Sort.{Sort}
-use Rattle.ob_model.specs.declared.objects.Sort.TheVariants.{Static, Automatic, Heap}
 use Rattle.ob_model.specs.Bounded.{Listed, surviving_cells}
 use Rattle.ob_model.specs.Cells.{Content}
 use Rattle.ob_model.specs.Descriptors.{Pair, Slots, is_dying, surviving_pairs}

@@ -1,6 +1,6 @@
 -- What the program keeps: the tables of objects and slots, the heap's places, the granules outside, and how many objects of each
 -- sort there are.
-use Rattle.std.specs.Prelude.{◌≡◌, ◌≢◌, ℕ, zero, suc, ◌+◌, ◌-◌, ◌/◌, ◌<◌, ◌≤◌, ◌%◌, Bool, true, false, List, [], ◌∷◌, Option, Some, None}
+use Rattle.std.specs.Prelude.{◌≡◌, ◌≢◌, ℕ, ◌+◌, ◌-◌, ◌/◌, ◌<◌, ◌≤◌, ◌%◌, false, List, [], ◌∷◌, Option, Some, None}
 use Rattle.std.specs.List.{All, Contains}
 use Rattle.ob_words.specs.Words.{block}
 use Rattle.ob_model.specs.declared.objects.Entry.{Entry}

@@ -1,4 +1,4 @@
-use Rattle.std.proofs.Common.{◌≡◌, ℕ, ◌+◌, ◌<◌, ◌≤◌, ◌/◌, false, length, List, arith, refl, sym, ap, ◌∙◌, subst, inr}
+use Rattle.std.proofs.Common.{ℕ, ◌+◌, ◌<◌, false, List, arith, refl, sym, ap, ◌∙◌, subst, inr}
 use Rattle.std.specs.List.{All}
 use Rattle.std.proofs.lemmas.List.Elements.{All-map, All-weaker}
 use Rattle.ob_model.specs.declared.objects.Entry.{Entry}

@@ -1,13 +1,13 @@
-use Rattle.std.proofs.Common.{◌≡◌, ℕ, ◌+◌, ◌-◌, ◌<◌, ◌≤◌, ◌==◌, Bool, false, List, Some, arith, refl, sym, ap, ◌∙◌, subst}
-use Rattle.std.specs.List.{All, Contains}
+use Rattle.std.proofs.Common.{◌≡◌, ℕ, ◌+◌, ◌-◌, List, arith, ap, ◌∙◌, subst}
+use Rattle.std.specs.List.{All}
 use Rattle.ob_words.specs.Words.{block}
 use Rattle.ob_model.specs.Entries.{with_live}
-use Rattle.ob_model.specs.Heap.{Allocated, Apart, Block, Fits, block_of, blocks_of, with_block, with_object}
+use Rattle.ob_model.specs.Heap.{Allocated, Apart, Fits, blocks_of, with_block, with_object}
 use Rattle.ob_model.specs.Limits.{heap_start}
 use Rattle.ob_pointers.specs.Pointing.{Pointing}
 use Rattle.ob_shelf.specs.Places.{Places}
 use Rattle.ob_lifetimes.specs.Living.{Living}
-use Rattle.ob_lifetimes.specs.Kept.{elsewhere, heap_blocks, living_in}
+use Rattle.ob_lifetimes.specs.Kept.{heap_blocks, living_in}
 use Rattle.ob_lifetimes.proofs.Heaps.{blocks-allocated, in_heap}
 use Rattle.ob_lifetimes.proofs.Keeping.{kept_allocated}
 use Rattle.ob_lifetimes.proofs.Rooms.{all_beside, first_fit, none_there, room_in_table}

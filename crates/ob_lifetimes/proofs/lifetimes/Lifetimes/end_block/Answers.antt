@@ -1,16 +1,16 @@
-use Rattle.std.proofs.Common.{◌≡◌, ℕ, ◌+◌, ◌-◌, ◌≤◌, ◌==◌, Bool, false, List, arith, refl, sym, ap, ◌∙◌, subst}
+use Rattle.std.proofs.Common.{◌≡◌, ℕ, ◌-◌, ◌==◌, Bool, false, List, arith, sym, ap, ◌∙◌, subst}
 use Rattle.std.specs.List.{Contains}
 use Rattle.ob_model.specs.declared.objects.Entry.{Entry}
 use Rattle.ob_model.specs.Bounded.{surviving_cells}
 use Rattle.ob_model.specs.Descriptors.{surviving_pairs}
 use Rattle.ob_model.specs.Entries.{Known, surviving_known}
-use Rattle.ob_model.specs.Heap.{Allocated, Block, blocks_of, surviving_blocks, without_place}
+use Rattle.ob_model.specs.Heap.{Allocated, blocks_of, surviving_blocks, without_place}
 use Rattle.ob_model.specs.Limits.{heap_start}
 use Rattle.ob_outside.specs.Granules.{Granules}
 use Rattle.ob_pointers.specs.Pointing.{Pointing}
 use Rattle.ob_shelf.specs.Places.{Places}
 use Rattle.ob_lifetimes.specs.Living.{Living}
-use Rattle.ob_lifetimes.specs.Kept.{elsewhere, heap_blocks, living_in}
+use Rattle.ob_lifetimes.specs.Kept.{heap_blocks, living_in}
 use Rattle.ob_lifetimes.proofs.Heaps.{blocks-survive}
 use Rattle.ob_lifetimes.proofs.Keeping.{kept_dead}
 use Rattle.ob_lifetimes.proofs.Sounding.{blocks_agree}

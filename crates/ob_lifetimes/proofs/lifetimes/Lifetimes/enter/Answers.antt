@@ -1,6 +1,5 @@
 use Rattle.std.proofs.Common.{◌≡◌, ℕ, ◌+◌, ◌<◌, ◌≤◌, List, length, get_or, arith, sym, ap, ◌∙◌, subst}
 use Rattle.std.specs.List.{All}
-use Rattle.ob_words.specs.Words.{block}
 use Rattle.ob_model.specs.Limits.{heap_start}
 use Rattle.ob_code.specs.declared.image.FunctionRow.{FunctionRow}
 use Rattle.ob_code.specs.declared.image.LocalRow.{LocalRow}

@@ -1,16 +1,16 @@
-use Rattle.std.proofs.Common.{◌≡◌, ℕ, ◌+◌, ◌<◌, ◌≤◌, ◌/◌, false, length, List, arith, refl, sym, ap, ◌∙◌, subst}
+use Rattle.std.proofs.Common.{ℕ, ◌+◌, ◌<◌, false, List, arith, refl, sym, ap, ◌∙◌, subst}
 use Rattle.std.specs.List.{All}
 use Rattle.std.proofs.lemmas.List.Elements.{All-map, All-weaker}
 use Rattle.ob_model.specs.declared.objects.Entry.{Entry}
 use Rattle.ob_model.specs.declared.objects.Sort.TheVariants.{Automatic}
-use Rattle.ob_model.specs.Entries.{Known, entries_of, with_live}
+use Rattle.ob_model.specs.Entries.{Known, with_live}
 use Rattle.ob_model.specs.Heap.{Allocated}
 use Rattle.ob_objects.specs.Objects.{AreApart}
 use Rattle.ob_pointers.specs.Pointing.{Pointing}
 use Rattle.ob_code.specs.Frames.{local_entry}
 use Rattle.ob_standing.specs.Laws.{IsGivenOut}
 use Rattle.ob_lifetimes.specs.Living.{Living}
-use Rattle.ob_lifetimes.specs.Kept.{IsBeside, IsPlacedKnown, elsewhere, heap_blocks, living_in}
+use Rattle.ob_lifetimes.specs.Kept.{IsBeside, IsPlacedKnown, living_in}
 use Rattle.ob_lifetimes.proofs.Heaps.{blocks-elsewhere}
 use Rattle.ob_lifetimes.proofs.Keeping.{kept_elsewhere}
 use Rattle.ob_lifetimes.proofs.Rooms.{room_elsewhere}

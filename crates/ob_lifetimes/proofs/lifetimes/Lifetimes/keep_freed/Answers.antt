@@ -1,15 +1,14 @@
-use Rattle.std.proofs.Common.{◌≡◌, ℕ, ◌≤◌, ◌==◌, Bool, false, List, arith, refl, sym, ap, ◌∙◌, subst}
+use Rattle.std.proofs.Common.{◌≡◌, ℕ, ◌==◌, Bool, false, List, sym, ap, ◌∙◌, subst}
 use Rattle.std.specs.List.{Contains}
 use Rattle.ob_model.specs.declared.objects.Entry.{Entry}
 use Rattle.ob_model.specs.declared.objects.Sort.TheVariants.{Heap}
 use Rattle.ob_model.specs.Bounded.{surviving_cells}
 use Rattle.ob_model.specs.Entries.{Known, with_freed}
 use Rattle.ob_model.specs.Heap.{Allocated}
-use Rattle.ob_model.specs.Limits.{heap_start}
 use Rattle.ob_outside.specs.Granules.{Granules}
 use Rattle.ob_pointers.specs.Pointing.{Pointing}
 use Rattle.ob_lifetimes.specs.Living.{Living}
-use Rattle.ob_lifetimes.specs.Kept.{heap_blocks, living_in}
+use Rattle.ob_lifetimes.specs.Kept.{living_in}
 use Rattle.ob_lifetimes.proofs.Heaps.{blocks-freed}
 use Rattle.ob_lifetimes.proofs.Keeping.{kept_freed}
 use Rattle.ob_lifetimes.proofs.Sounding.{all_same, is_placed}

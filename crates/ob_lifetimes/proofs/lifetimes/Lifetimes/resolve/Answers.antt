@@ -1,4 +1,3 @@
-use Rattle.std.proofs.Common.{◌≡◌}
 use Rattle.ob_lifetimes.proofs.Sounding.{sound_objects}
 use Rattle.ob_lifetimes.proofs.lifetimes.Lifetimes.resolve.Goals as goal
 

@@ -1,6 +1,3 @@
-use Rattle.std.proofs.Common.{◌≡◌}
-use Rattle.ob_lifetimes.proofs.Keeping.{kept_freed}
-use Rattle.ob_lifetimes.proofs.Moving.{stored_cells}
 use Rattle.ob_lifetimes.proofs.Sounding.{sound_objects}
 use Rattle.ob_lifetimes.proofs.lifetimes.Lifetimes.stands.Goals as goal
 
