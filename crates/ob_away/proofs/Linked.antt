@@ -1,12 +1,14 @@
 -- The chain of each object's slots.
 use Rattle.std.proofs.Common.{◌≡◌, ◌==◌, ◌&&◌, ℕ, zero, suc, ◌+◌, ◌<◌, Bool, true, false, not, List, [], ◌∷◌, length, set, get_or, arith, Option, Some, None, ap, ⊎_elim, sym, ◌∙◌, get_or-set_same, get_or-set_other, refl, ltb, if◌then◌else◌}
-use Rattle.std.specs.Prelude.{nat_eq, IsSome}
+use Rattle.std.specs.Prelude.{nat_eq, IsSome, is_some}
+use Rattle.std.specs.BinaryHeap.{heap_len}
 use Rattle.std.proofs.lemmas.Bool.{cases_Bool, cases_eq, cases_lt, both_ways, cond-true, cond-false, eq-eqb, ne_eqb, eqb-true, lt-ltb, le-ltb, and_parts}
 use Rattle.std.proofs.lemmas.List.{get_or_past}
 use Rattle.ob_model.specs.Descriptors.{Pair, Slots, pair_in}
 use Rattle.ob_away.specs.Slots.{is_of, without}
 use Rattle.ob_away.proofs.Changes.{pair_in-without, without-none}
-use Rattle.ob_away.specs.Kept.{Heads, head_of, owns, IsChain, Chained, IsLinked, LeadsOthers}
+use Rattle.ob_away.proofs.FreeSlots.{fewer_free}
+use Rattle.ob_away.specs.Kept.{Free, IsListed, Heads, head_of, owns, IsChain, Chained, IsLinked, LeadsOthers}
 
 -- the owned slots but one
 abbrev pub but : (ℕ → Bool) → ℕ → ℕ → Bool
@@ -271,3 +273,8 @@ without-ended next at slots object chained stops =
     both_ways (owns slots object k)
     (chain-end chained.0 next at (owns slots object) chained.1 stops k)
     (ap (is_of object) held ∙ eq-eqb object pair.0 own))
+
+-- all slots are free: there is nothing to be freed
+pub without-free : (slots : Slots) (free : Free) (object : ℕ) → IsListed free slots → heap_len free ≡ length slots → without object slots ≡ slots
+without-free slots free object listed all =
+    without-none object slots (λ k pair held owner. absurd (omega (arith, all, fewer_free slots free k listed (ap is_some held))))

@@ -127,6 +127,9 @@ impl AwayTable {
     pub fn forget(&mut self, object: u64)
         ensures { self.new ≡ record self.old { slots = without object self.old.slots } }
     {
+        if self.free.len() == self.slots.len() {
+            return;
+        }
         let first = head(&self.heads, object);
         free_chain(
             &mut self.slots,

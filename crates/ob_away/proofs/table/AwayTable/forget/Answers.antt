@@ -1,10 +1,18 @@
-use Rattle.std.proofs.Common.{◌≡◌, length, ap, ◌∙◌, arith}
+use Rattle.std.proofs.Common.{◌≡◌, length, ap, sym, ◌∙◌, arith}
+use Rattle.std.specs.BinaryHeap.{heap_len}
 use Rattle.std.proofs.lemmas.List.{length-map}
 use Rattle.ob_model.specs.Descriptors.{Slots}
 use Rattle.ob_away.specs.Slots.{Descriptors}
 use Rattle.ob_away.proofs.Changes.{IsInterned-without, IsIndexed-without}
-use Rattle.ob_away.proofs.Linked.{IsLinked-without}
+use Rattle.ob_away.proofs.Linked.{IsLinked-without, without-free}
 use Rattle.ob_away.proofs.table.AwayTable.forget.Goals as goal
+
+pub returns-then-len : goal.returns-then-len
+returns-then-len c =
+    let all : heap_len c.self.inside.free ≡ length c.self.inside.slots.items = omega arith in
+    let none = without-free c.self.inside.slots.items c.self.inside.free c.args.object c.self.invariant.listed all in
+    let table : Slots → Descriptors = λ xs. record { limit = c.self.inside.limit; slots = xs } in
+    rw (← c.self.view_is) (ap table (sym none))
 
 pub free_chain-requires-clause-chained : goal.free_chain-requires-clause-chained
 free_chain-requires-clause-chained c = rw (c.as_slice.ensures.value, c.head-first.ensures) (c.self.invariant.linked.chained c.args.object)
