@@ -114,6 +114,19 @@ fn check_top(rt: &impl Abort, frames: &Frames, i: usize, caller: u64)
     assert_eq!(rt; (frames.get_word(0), frames.get_word(1)), (link, caller));
 }
 
+// Enters all functions of the table.
+fn enter_all(rt: &impl Abort, frames: &mut Frames)
+    requires { length frames.old.functions ≡ 3 }
+    ensures { length frames.new.functions ≡ 3 }
+{
+    enter(rt, frames, 0);
+    check_top(rt, frames, 0, 0);
+    enter(rt, frames, 1);
+    check_top(rt, frames, 1, 0x100_0000);
+    enter(rt, frames, 2);
+    check_top(rt, frames, 2, 0x100_0020);
+}
+
 // The innermost call is left, and is that of a row of the table.
 fn leave(rt: &impl Abort, frames: &mut Frames, i: usize)
     requires { i < 3 }
@@ -129,12 +142,7 @@ fn calls_nest(rt: HostRuntime) -> Result<(), Fail> {
     let v = verified(&rt, alloc)?;
     assert!(rt; v.image().functions.as_slice().len() == 3);
     let mut frames = Frames::new(alloc, &v, 64)?;
-    let mut caller = 0;
-    for i in 0..3 {
-        enter(&rt, &mut frames, i);
-        check_top(&rt, &frames, i, caller);
-        caller = CALLS[i].3;
-    }
+    enter_all(&rt, &mut frames);
     assert!(rt; frames.enter(0, 1, 1).is_err());
     for i in 0..3 {
         leave(&rt, &mut frames, 2 - i);
