@@ -29,9 +29,9 @@ pub enum StoreAnswer {
 
 // The word that a load gives: what it found, or the next manufactured value.
 fn word_or_made<M: Maker>(found: Option<u64>, kind: LoadKind, maker: &mut M) -> u64
-    ensures word { result ≡ given_word found kind (cycle maker.old) (place maker.old) }
-    ensures place { place maker.new ≡ given_place found (cycle maker.old) (place maker.old) }
-    ensures cycle { cycle maker.new ≡ cycle maker.old }
+    ensures word { result ≡ given_word found kind (M.cycle maker.old) (M.place maker.old) }
+    ensures place { M.place maker.new ≡ given_place found (M.cycle maker.old) (M.place maker.old) }
+    ensures cycle { M.cycle maker.new ≡ M.cycle maker.old }
 {
     match found {
         Some(w) => w,
@@ -87,11 +87,11 @@ impl Space {
         watchers: &mut Vec<W>,
     ) -> Result<u64, FarOut>
         ensures far { IsErr result ↔ (access_of self.old w displacement kind ≡ too_far) }
-        ensures word { IfOk result (λ word. word ≡ given_word (found self.old w displacement kind) kind (cycle maker.old) (place maker.old)) }
-        ensures place { OnOk result (place maker.new ≡ given_place (found self.old w displacement kind) (cycle maker.old) (place maker.old)) }
-        ensures unmoved { OnErr result (place maker.new ≡ place maker.old) }
-        ensures cycle { cycle maker.new ≡ cycle maker.old }
-        ensures told { map (λ w. record { capacity = capacity w; kept = kept w; total = told w }) watchers.new.items ≡ watches_after (load_event self.old w displacement kind line) (map (λ w. record { capacity = capacity w; kept = kept w; total = told w }) watchers.old.items) }
+        ensures word { IfOk result (λ word. word ≡ given_word (found self.old w displacement kind) kind (M.cycle maker.old) (M.place maker.old)) }
+        ensures place { OnOk result (M.place maker.new ≡ given_place (found self.old w displacement kind) (M.cycle maker.old) (M.place maker.old)) }
+        ensures unmoved { OnErr result (M.place maker.new ≡ M.place maker.old) }
+        ensures cycle { M.cycle maker.new ≡ M.cycle maker.old }
+        ensures told { map (λ w. record { capacity = W.capacity w; kept = W.kept w; total = W.told w }) watchers.new.items ≡ watches_after (load_event self.old w displacement kind line) (map (λ w. record { capacity = W.capacity w; kept = W.kept w; total = W.told w }) watchers.old.items) }
         ensures space { self.new ≡ after_load self.old w displacement kind }
         ensures links { KeepsLinks self.old.space self.new.space }
         ensures standing { KeepsStanding self.old.space self.new.space }
@@ -122,7 +122,7 @@ impl Space {
     ) -> Result<(), StoreAnswer>
         ensures far { (result ≡ Err Far) ↔ (access_of self.old w displacement kind ≡ too_far) }
         ensures no_memory { result ≡ Err NoMemory → NeedsMemory self.old w displacement kind }
-        ensures told { map (λ w. record { capacity = capacity w; kept = kept w; total = told w }) watchers.new.items ≡ watches_after (store_event self.old w displacement kind line) (map (λ w. record { capacity = capacity w; kept = kept w; total = told w }) watchers.old.items) }
+        ensures told { map (λ w. record { capacity = W.capacity w; kept = W.kept w; total = W.told w }) watchers.new.items ≡ watches_after (store_event self.old w displacement kind line) (map (λ w. record { capacity = W.capacity w; kept = W.kept w; total = W.told w }) watchers.old.items) }
         ensures space { OnOk result (self.new ≡ after_store self.old w displacement kind value) }
         ensures changes { OnOk result (StoresAt (access_of self.old w displacement kind) kind value self.old self.new) }
         ensures unchanged { OnErr result (self.new ≡ self.old) }

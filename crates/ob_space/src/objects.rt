@@ -43,7 +43,7 @@ impl Space {
     /// with its source line.
     pub fn free<W: Watcher>(&mut self, w: u64, line: u32, watchers: &mut Vec<W>)
         ensures space { self.new ≡ after_free self.old w }
-        ensures told { map (λ w. record { capacity = capacity w; kept = kept w; total = told w }) watchers.new.items ≡ watches_after (free_event (freeing_of self.old w) line) (map (λ w. record { capacity = capacity w; kept = kept w; total = told w }) watchers.old.items) }
+        ensures told { map (λ w. record { capacity = W.capacity w; kept = W.kept w; total = W.told w }) watchers.new.items ≡ watches_after (free_event (freeing_of self.old w) line) (map (λ w. record { capacity = W.capacity w; kept = W.kept w; total = W.told w }) watchers.old.items) }
         ensures links { KeepsLinks self.old.space self.new.space }
         ensures standing { KeepsStanding self.old.space self.new.space }
     {
