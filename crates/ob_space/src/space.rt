@@ -13,6 +13,7 @@ use ob_code::Verified;
 use ob_frames::{Frames, StackFull};
 use ob_lifetimes::Lifetimes;
 use ob_model::RunSettings;
+use ob_standing::laws::{law_deaths, law_new_objects};
 use std::alloc::Global;
 use std::marker::Model;
 
@@ -82,6 +83,9 @@ impl Space {
         ensures links { KeepsLinks self.old.space self.new.space }
         ensures standing { KeepsStanding self.old.space self.new.space }
     {
+        law_new_objects();
+        self.frames.law_framed();
+        self.living.stands();
         let base = self.frames.enter(function, link, self.living.next())?;
         self.living.enter(base, self.frames.row(function));
         Ok(())
@@ -95,6 +99,9 @@ impl Space {
         ensures links { KeepsLinks self.old.space self.new.space }
         ensures standing { KeepsStanding self.old.space self.new.space }
     {
+        law_deaths();
+        self.frames.law_framed();
+        self.living.stands();
         let call = self.frames.leave()?;
         let row = self.frames.row(call.function);
         self.living.leave(call.base, call.first, row);
