@@ -4,3 +4,9 @@ pub mod Owning
 pub mod Entering
 pub mod Leaving
 pub mod Writing
+pub mod Reaching
+pub mod Linking
+pub mod Allocating
+pub mod Showing
+pub mod Laying
+pub mod Keeping

@@ -18,19 +18,19 @@ use Rattle.ob_space.specs.Granules.{Beside, WritesGranule, granule_start}
 pub record IsShort (n : ℕ) : Type 0 where
   pub some : 0 < n
   pub fits : (a : ℕ) → a % n ≡ 0 → a % 8 + n ≤ 8
-  pub divides : (a : ℕ) → a % 8 % n ≡ 0 → a % n ≡ 0
+  pub sums : (base a : ℕ) → base % 16 ≡ 0 → a % n ≡ 0 → (base + a) % n ≡ 0
 
 short_1 : IsShort 1
-short_1 = record { some = omega arith; fits = λ a h. omega arith; divides = λ a h. omega arith }
+short_1 = record { some = omega arith; fits = λ a h. omega arith; sums = λ base a multiple h. omega arith }
 
 short_2 : IsShort 2
-short_2 = record { some = omega arith; fits = λ a h. omega arith; divides = λ a h. omega arith }
+short_2 = record { some = omega arith; fits = λ a h. omega arith; sums = λ base a multiple h. omega arith }
 
 short_4 : IsShort 4
-short_4 = record { some = omega arith; fits = λ a h. omega arith; divides = λ a h. omega arith }
+short_4 = record { some = omega arith; fits = λ a h. omega arith; sums = λ base a multiple h. omega arith }
 
 short_8 : IsShort 8
-short_8 = record { some = omega arith; fits = λ a h. omega arith; divides = λ a h. omega arith }
+short_8 = record { some = omega arith; fits = λ a h. omega arith; sums = λ base a multiple h. omega arith }
 
 short_number : (t : IntType) → IsShort (width t / 8)
 short_number Char = short_1

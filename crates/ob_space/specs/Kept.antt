@@ -79,6 +79,13 @@ LiesAsSort Heap f e = Unit {0}
 abbrev pub LiesIn : Framed → Known → Type 0
 LiesIn f k = LiesAsSort k.entry.sort f k.entry
 
+-- a static object, and one that ends before an address
+abbrev pub static_entry : ℕ → ℕ → ℕ → Entry
+static_entry base size object = record { base = base; size = size; object = object; sort = Static }
+
+abbrev pub EndsBefore : ℕ → Known → Type 0
+EndsBefore end k = k.entry.base + k.entry.size < end
+
 -- ---- both together
 
 -- the parts are for these settings, and for this image

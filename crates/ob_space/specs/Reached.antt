@@ -1,5 +1,6 @@
 -- What an access that reaches a granule rests on. Serves the proof.
 use Rattle.std.specs.Prelude.{◌≡◌, ℕ, ◌+◌, ◌-◌, ◌%◌, true}
+use Rattle.ob_model.specs.declared.settings.Mode.TheVariants.{Boundless}
 use Rattle.ob_model.specs.declared.values.LoadKind.{LoadKind}
 use Rattle.ob_model.specs.Accesses.{bytes_of_kind, is_aligned}
 use Rattle.ob_flat.specs.Memory.{IsIn}
@@ -19,11 +20,12 @@ pub record IsReached (s : Loaded) (kind : LoadKind) (address : ℕ) : Type 0 whe
   pub aligned : address % bytes_of_kind kind ≡ 0
   pub apart : MeetsNoLink s.space.calls (granule_start address) 8
 
--- an access at an address reaches such a granule; one outside of its object is aligned, and the object lives
+-- an access at an address reaches such a granule; one outside of its object is aligned, and the object
+-- lives; the settings keep strays
 abbrev pub Reaches : Access → LoadKind → Loaded → Type 0
 Reaches accesses.too_far kind s = Unit {0}
 Reaches (accesses.direct address) kind s = IsReached s kind address
 Reaches (accesses.own object offset address) kind s = IsReached s kind address
 Reaches (accesses.outside object offset) kind s =
-    (is_aligned offset (bytes_of_kind kind) ≡ true) × IsLive object s.space.entries
+    (is_aligned offset (bytes_of_kind kind) ≡ true) × IsLive object s.space.entries × (s.settings.mode ≡ Boundless)
 Reaches (accesses.vanishing object offset) kind s = Unit {0}

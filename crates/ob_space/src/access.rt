@@ -1,14 +1,23 @@
-ghost use Rattle.std.specs.Prelude.{◌≡◌, ◌↔◌, Err, map, IsErr, IfOk, OnOk, OnErr};
+ghost use Rattle.std.specs.Prelude.{◌≡◌, ◌↔◌, None, Err, map, IsErr, IfOk, OnOk, OnErr};
+ghost use Rattle.ob_model.specs.Accesses.{granule};
+ghost use Rattle.ob_model.specs.Bounded.{listed_cell};
 ghost use Rattle.ob_frames.specs.Links.{KeepsLinks};
 ghost use Rattle.ob_standing.specs.Laws.{KeepsStanding};
 ghost use Rattle.ob_telling.specs.Telling.{watches_after};
-ghost use Rattle.ob_code.specs.Accesses.{too_far};
+ghost use Rattle.ob_code.specs.Accesses.{after_direct_store, after_outside_store, found_word, outside, space_after_load, space_after_store, too_far};
+ghost use Rattle.ob_access.specs.Reaches.{as_access};
 ghost use Rattle.ob_space.specs.declared.access.StoreAnswer.TheVariants.{Far, NoMemory};
-ghost use Rattle.ob_space.specs.Accesses.{access_of, load_event, store_event, found, given_word, given_place, after_load, after_store, NeedsMemory, StoresAt};
+ghost use Rattle.ob_space.specs.Accesses.{access_of, load_event, store_event, found, given_word, given_place, after_load, after_store, IsUnlisted, NeedsMemory, StoresAt};
+ghost use Rattle.ob_space.specs.Granules.{WritesGranule};
+ghost use Rattle.ob_space.specs.Loaded.{with_space};
+ghost use Rattle.ob_space.specs.Reached.{IsReached, Reaches};
 
 use crate::Space;
 use ob_access::{Access, access_to};
+use ob_base::NoMemory;
 use ob_events::{event_of, make_word};
+use ob_flat::laws::{law_fields, law_layout, law_marks, law_zeros};
+use ob_frames::laws::law_objects;
 use ob_maker::Maker;
 use ob_model::{Act, LoadKind, size_of_kind};
 use ob_telling::tell_each;
@@ -40,14 +49,28 @@ fn word_or_made<M: Maker>(found: Option<u64>, kind: LoadKind, maker: &mut M) -> 
 }
 
 impl Space {
-    // What becomes of an access.
-    fn access(&mut self, w: u64, displacement: i64, kind: LoadKind) -> Access {
+    // What becomes of an access, and what it rests on.
+    fn access(&mut self, w: u64, displacement: i64, kind: LoadKind) -> Access
+        ensures access { as_access result ≡ access_of self.old w displacement kind }
+        ensures reached { Reaches (as_access result) kind self.old }
+        ensures kept { self.new ≡ self.old }
+    {
+        law_objects();
+        self.frames.law_framed();
+        self.living.stands();
         let pointer = self.living.resolve(w);
         access_to(self.settings.mode, pointer, displacement, size_of_kind(kind))
     }
 
     // What a load finds.
-    fn find(&mut self, access: Access, kind: LoadKind) -> Option<u64> {
+    fn find(&mut self, access: Access, kind: LoadKind) -> Option<u64>
+        requires { Reaches (as_access access) kind self.old }
+        ensures word { result ≡ found_word (as_access access) kind self.old.space }
+        ensures space { self.new ≡ with_space self.old (space_after_load (as_access access) self.old.space) }
+        ensures links { KeepsLinks self.old.space self.new.space }
+        ensures standing { KeepsStanding self.old.space self.new.space }
+    {
+        self.frames.law_framed();
         match access {
             Access::Direct { address } | Access::Own { address, .. } =>
                 Some(self.frames.read(kind, address)),
@@ -56,18 +79,52 @@ impl Space {
         }
     }
 
+    // Writes a granule of a live object's own.
+    fn write(&mut self, kind: LoadKind, address: u64, value: u64)
+        requires { IsReached self.old kind address }
+        ensures space { self.new ≡ with_space self.old (after_direct_store kind address value self.old.space) }
+        ensures granule { WritesGranule kind address value self.old.space.memory self.new.space.memory }
+        ensures links { KeepsLinks self.old.space self.new.space }
+        ensures standing { KeepsStanding self.old.space self.new.space }
+    {
+        law_fields();
+        law_marks();
+        law_zeros();
+        law_layout();
+        self.frames.law_framed();
+        self.frames.write(kind, address, value);
+    }
+
+    // Writes a granule outside of its object.
+    fn write_outside(&mut self, kind: LoadKind, object: u64, offset: i64, value: u64) -> Result<(), NoMemory>
+        requires { Reaches (outside object offset) kind self.old }
+        ensures no_memory { IsErr result → listed_cell object (granule offset) self.old.space.outside ≡ None }
+        ensures space { OnOk result (self.new ≡ with_space self.old (after_outside_store self.old.settings.store kind object offset value self.old.space)) }
+        ensures unchanged { OnErr result (self.new ≡ self.old) }
+        ensures links { KeepsLinks self.old.space self.new.space }
+        ensures standing { KeepsStanding self.old.space self.new.space }
+    {
+        self.frames.law_framed();
+        self.living.store_outside(kind, object, offset, value)
+    }
+
     // Does a store that is not too far.
-    fn put(&mut self, access: Access, kind: LoadKind, value: u64) -> Result<(), StoreAnswer> {
+    fn put(&mut self, access: Access, kind: LoadKind, value: u64) -> Result<(), NoMemory>
+        requires { Reaches (as_access access) kind self.old }
+        ensures no_memory { IsErr result → IsUnlisted (as_access access) self.old }
+        ensures space { OnOk result (self.new ≡ with_space self.old (space_after_store (as_access access) self.old.settings.store kind value self.old.space)) }
+        ensures changes { OnOk result (StoresAt (as_access access) kind value self.old self.new) }
+        ensures unchanged { OnErr result (self.new ≡ self.old) }
+        ensures links { KeepsLinks self.old.space self.new.space }
+        ensures standing { KeepsStanding self.old.space self.new.space }
+    {
+        self.frames.law_framed();
         match access {
             Access::Direct { address } | Access::Own { address, .. } => {
-                self.frames.write(kind, address, value);
+                self.write(kind, address, value);
                 Ok(())
             }
-            Access::Outside { object, offset } =>
-                match self.living.store_outside(kind, object, offset, value) {
-                    Ok(()) => Ok(()),
-                    Err(_) => Err(StoreAnswer::NoMemory),
-                },
+            Access::Outside { object, offset } => self.write_outside(kind, object, offset, value),
             Access::Vanishing { .. } | Access::TooFar => Ok(()),
         }
     }
@@ -134,6 +191,9 @@ impl Space {
             return Err(StoreAnswer::Far);
         }
         tell_each(watchers, event_of(access, line, Act::Store, size_of_kind(kind)));
-        self.put(access, kind, value)
+        match self.put(access, kind, value) {
+            Ok(()) => Ok(()),
+            Err(_) => Err(StoreAnswer::NoMemory),
+        }
     }
 }

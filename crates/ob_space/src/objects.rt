@@ -8,17 +8,36 @@ ghost use Rattle.ob_code.specs.Rules.{HasStatic};
 ghost use Rattle.ob_frames.specs.Links.{KeepsLinks};
 ghost use Rattle.ob_standing.specs.Laws.{KeepsStanding};
 ghost use Rattle.ob_telling.specs.Telling.{watches_after};
+ghost use Rattle.ob_lifetimes.specs.Living.{as_freeing};
 ghost use Rattle.ob_space.specs.Loaded.{IsShowable, address_in_heap, after_free, freeing_of, heap_place, with_space};
 
 use crate::Space;
 use ob_lifetimes::Freed;
-use ob_model::{Act, LoadKind, StrayEvent};
+use ob_frames::laws::law_objects;
+use ob_model::{Act, LoadKind, StrayEvent, law_first_fit};
+use ob_standing::laws::{law_deaths, law_new_objects};
 use ob_telling::tell_each;
 use ob_watch::Watcher;
 use ob_words::block;
 
 /// Where the heap begins.
 const HEAP_START: u64 = 0x0200_0000;
+
+// The event of a `free` that went astray; none of any other.
+fn event_of(freed: Freed, line: u32) -> Option<StrayEvent>
+    ensures { result ≡ free_event (as_freeing freed) line }
+{
+    match freed {
+        Freed::Stray { object, offset } => Some(StrayEvent {
+            line,
+            act: Act::Free,
+            object,
+            offset,
+            size: 0,
+        }),
+        Freed::NoEffect | Freed::Own { .. } => None,
+    }
+}
 
 impl Space {
     /// A new object of `n` zero bytes on the heap (C99 7.20.3), which has the next number; gives its address.
@@ -31,6 +50,11 @@ impl Space {
         ensures links { KeepsLinks self.old.space self.new.space }
         ensures standing { KeepsStanding self.old.space self.new.space }
     {
+        law_first_fit();
+        law_new_objects();
+        law_objects();
+        self.frames.law_framed();
+        self.living.stands();
         let place = self.living.allocate(n)?;
         let address = HEAP_START + place;
         self.frames.zero(address, block(n as u64));
@@ -47,16 +71,11 @@ impl Space {
         ensures links { KeepsLinks self.old.space self.new.space }
         ensures standing { KeepsStanding self.old.space self.new.space }
     {
-        if let Freed::Stray { object, offset } = self.living.free(w) {
-            let event = StrayEvent {
-                line,
-                act: Act::Free,
-                object,
-                offset,
-                size: 0,
-            };
-            tell_each(watchers, Some(event));
-        }
+        law_deaths();
+        self.frames.law_framed();
+        self.living.stands();
+        let freed = self.living.free(w);
+        tell_each(watchers, event_of(freed, line));
     }
 
     /// Makes the granules of a local object of the innermost call zero bytes. The innermost call's function has
@@ -67,8 +86,10 @@ impl Space {
         ensures links { KeepsLinks self.old.space self.new.space }
         ensures standing { KeepsStanding self.old.space self.new.space }
     {
+        law_objects();
+        self.frames.law_framed();
         let base = self.frames.local_base(row);
-        let size = u64::from(self.frames.local_row(row).size);
+        let size = self.frames.local_row(row).size;
         self.frames.zero(base, 8 * size.div_ceil(8));
     }
 
@@ -95,6 +116,8 @@ impl Space {
         requires { IsShowable self.now w kind }
         ensures { result ≡ read_memory kind self.now.space.memory w }
     {
+        law_objects();
+        self.frames.law_framed();
         self.frames.read(kind, w)
     }
 }

@@ -8,6 +8,7 @@ ghost use Rattle.ob_space.specs.Loaded.{Moves, pointer_at};
 
 use crate::Space;
 use ob_pointers::ShiftAnswer;
+use ob_standing::laws::law_moves;
 use ob_words::Relation;
 
 impl Space {
@@ -22,6 +23,8 @@ impl Space {
         ensures links { KeepsLinks self.old.space self.new.space }
         ensures standing { KeepsStanding self.old.space self.new.space }
     {
+        law_moves();
+        self.frames.law_framed();
         self.living.shift(w, displacement)
     }
 

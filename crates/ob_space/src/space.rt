@@ -10,10 +10,12 @@ ghost use Rattle.ob_space.specs.Loaded.{loaded, cleared, top_words, with_space, 
 use crate::statics::add_statics;
 use ob_base::NoMemory;
 use ob_code::Verified;
+use ob_frames::laws::law_objects;
 use ob_frames::{Frames, StackFull};
 use ob_lifetimes::Lifetimes;
 use ob_model::RunSettings;
 use ob_standing::laws::{law_deaths, law_new_objects};
+use ob_statics::law_laid_out;
 use std::alloc::Global;
 use std::marker::Model;
 
@@ -46,7 +48,9 @@ impl Space {
         requires settings { IsFit settings.now }
         ensures { IfOk result (λ space. space ≡ loaded v.now settings.now) }
     {
+        law_laid_out();
         let frames = Frames::new(alloc, v, settings.heap)?;
+        frames.law_framed();
         let mut living = Lifetimes::new(alloc, settings, frames.statics() as usize)?;
         add_statics(&frames, &mut living);
         Ok(Space {
@@ -61,7 +65,9 @@ impl Space {
         ensures memory { self.new ≡ cleared self.old }
         ensures links { KeepsLinks self.old.space self.new.space }
     {
+        law_laid_out();
         self.frames.clear();
+        self.frames.law_framed();
         self.living.clear();
         add_statics(&self.frames, &mut self.living);
     }
@@ -70,7 +76,11 @@ impl Space {
     /// its block as a whole.
     pub fn stands(&self)
         ensures { GranulesLieApart self.now.space.entries }
-    {}
+    {
+        law_objects();
+        self.frames.law_framed();
+        self.living.stands();
+    }
 
     /// Enters a function of the image: its frame becomes zero bytes with its two link words, `link` and the
     /// base of the caller's frame, which is 0 for the first call, and its local objects are made. The next
