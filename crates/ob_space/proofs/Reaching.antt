@@ -2,7 +2,6 @@
 use Rattle.std.proofs.Common.{◌≡◌, ℕ, ◌+◌, ◌-◌, ◌*◌, ◌/◌, ◌%◌, ◌^◌, ◌<◌, ◌≤◌, ◌==◌, ◌&&◌, ◌||◌, Bool, true, false, not, cond, ℤ, pos, negsuc, ◌+ℤ◌, unsigned_abs, List, [], ◌∷◌, ◌++◌, length, Option, Some, None, All, arith, ap, sym, subst, ◌∙◌, refl, ⊎_elim, ◌⊎◌, inl, inr}
 use Rattle.std.specs.List.{Contains}
 use Rattle.std.specs.Prelude.{if◌then◌else◌, slice_index_or, IfSome}
-use Rattle.std.specs.Option.{ForSome}
 use Rattle.std.proofs.lemmas.Bool.{eqb-true, leb-true, ltb-true}
 use Rattle.std.proofs.lemmas.List.Elements.{All-contains, Contains-get_or}
 use Rattle.ob_words.specs.Words.{block}
@@ -135,16 +134,6 @@ pub object_is_held : (f : Framed) (l : Living) (settings : RunSettings) (k : Kno
 object_is_held f l settings k grounds among =
     held_by_sort k.entry.sort f l settings k grounds (All-contains (LiesIn f) l.entries k grounds.kept.places among) (All-contains (λ (k : Known). LiesBySort k.entry.sort l.heap l.blocks k) l.entries k grounds.sound.places among)
 
-near_by_sort : (s : Sort) (f : Framed) (l : Living) (settings : RunSettings) (k : Known) → IsFramed f → IsKept f l settings → LiesBySort s l.heap l.blocks k → k.entry.base < 2 ^ 63
-near_by_sort Static f l settings k framed kept by_sort = omega (arith, by_sort.0)
-near_by_sort Automatic f l settings k framed kept by_sort = omega (arith, by_sort.0)
-near_by_sort Heap f l settings k framed kept by_sort =
-    omega (arith, by_sort.2.base, by_sort.2.within, kept.settled.heap, kept.settled.memory, framed.memory.laid_out.heap)
-
-pub base_is_near : (f : Framed) (l : Living) (settings : RunSettings) (k : Known) → IsFramed f → IsSound l → IsKept f l settings → Contains l.entries k → k.entry.base < 2 ^ 63
-base_is_near f l settings k framed sound kept among =
-    near_by_sort k.entry.sort f l settings k framed kept (All-contains (λ (k : Known). LiesBySort k.entry.sort l.heap l.blocks k) l.entries k sound.places among)
-
 -- ---- a granule of an object's own
 
 pub reached_at : (f : Framed) (l : Living) (settings : RunSettings) (k : Known) (kind : LoadKind) (n : ℕ) → IsHeld f k.entry.base k.entry.size → Contains l.entries k → k.freed ≡ false → n / 8 < own_granules k.entry.size → n % bytes_of_kind kind ≡ 0 → IsReached (loaded_in f l settings) kind (k.entry.base + n)
@@ -250,10 +239,6 @@ reached_to f l settings (Some p) d kind grounds among =
 pub reached : (f : Framed) (l : Living) (settings : RunSettings) (pointer : Option Pointee) (d : ℤ) (kind : LoadKind) → Grounds f l settings → IsAmong l.entries pointer → Reaches (if is_far d then accesses.too_far else access_to settings.mode (target_of pointer) d (bytes_of_kind kind)) kind (loaded_in f l settings)
 reached f l settings pointer d kind grounds among =
     unless_far (is_far d) (access_to settings.mode (target_of pointer) d (bytes_of_kind kind)) kind (loaded_in f l settings) (reached_to f l settings pointer d kind grounds among)
-
-pub near_pointer : (f : Framed) (l : Living) (settings : RunSettings) (pointer : Option Pointee) → IsFramed f → IsSound l → IsKept f l settings → IsAmong l.entries pointer → ForSome pointer (λ p. p.entry.base < 2 ^ 63)
-near_pointer f l settings None framed sound kept among = tt
-near_pointer f l settings (Some p) framed sound kept among = base_is_near f l settings (record { entry = p.entry; freed = p.freed }) framed sound kept among
 
 -- ---- granules of two objects
 

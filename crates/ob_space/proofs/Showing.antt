@@ -1,8 +1,10 @@
 -- The bytes of static objects, and of local objects of the innermost call.
-use Rattle.std.proofs.Common.{◌≡◌, ℕ, zero, suc, ◌+◌, ◌*◌, ◌-◌, ◌/◌, ◌<◌, ◌≤◌, ◌%◌, List, [], ◌∷◌, length, take, arith, ap, sym, subst, ◌∙◌, refl, ◌⊎◌, inl, inr}
+use Rattle.std.proofs.Common.{◌≡◌, ℕ, zero, suc, ◌+◌, ◌*◌, ◌-◌, ◌/◌, ◌<◌, ◌≤◌, ◌%◌, List, [], ◌∷◌, length, take, arith, ap, sym, subst, ◌∙◌, refl, ⊎_elim, ◌⊎◌, inl, inr}
 use Rattle.std.specs.Prelude.{slice_index_or}
 use Rattle.ob_words.specs.Words.{block}
-use Rattle.ob_model.specs.Accesses.{own_granules}
+use Rattle.ob_model.specs.declared.settings.RunSettings.{RunSettings}
+use Rattle.ob_model.specs.declared.values.LoadKind.{LoadKind}
+use Rattle.ob_model.specs.Accesses.{bytes_of_kind}
 use Rattle.ob_flat.specs.Memory.{IsIn, IsWithin}
 use Rattle.ob_code.specs.declared.image.LocalRow.{LocalRow}
 use Rattle.ob_code.specs.declared.image.StaticRow.{StaticRow}
@@ -14,6 +16,8 @@ use Rattle.ob_frames.specs.Framed.{Framed, local_base, top_locals}
 use Rattle.ob_frames.specs.Kept.{IsFramed}
 use Rattle.ob_frames.specs.Laws.{LocalsLieInMemory, LocalsMeetNoLink}
 use Rattle.ob_frames.specs.Links.{MeetsNoLink}
+use Rattle.ob_lifetimes.specs.Living.{Living}
+use Rattle.ob_space.specs.Kept.{loaded_in}
 use Rattle.ob_space.specs.Loaded.{IsLocalOf, IsShowable, IsStaticOf, Loaded}
 use Rattle.ob_space.proofs.Framing.{frames_in_blocks}
 
@@ -48,3 +52,12 @@ pub static_lies : (f : Framed) (number n : ℕ) → IsFramed f → HasStatic f.s
 static_lies f number n framed has long =
     let ends = blocks_to f.statics (number - 1) (omega (arith, has.0, has.1)) in
     record { begins = omega arith; ends = omega (arith, framed.static_bytes, ends) }
+
+pub showable_lies : (law : LocalsLieInMemory) (f : Framed) (l : Living) (settings : RunSettings) (w : ℕ) (kind : LoadKind) → IsFramed f → IsShowable (loaded_in f l settings) w kind → IsIn f.memory w (bytes_of_kind kind)
+showable_lies law f l settings w kind framed shows =
+    ⊎_elim
+    (λ (here : IsStaticOf (loaded_in f l settings) w (bytes_of_kind kind)).
+    subst (λ (a : ℕ). IsIn f.memory a (bytes_of_kind kind)) (sym here.base) (inl (static_lies f here.number (bytes_of_kind kind) framed here.exists here.long)))
+    (λ (here : IsLocalOf (loaded_in f l settings) w (bytes_of_kind kind)).
+    locals_lie law f f.calls here.row w (bytes_of_kind kind) framed here.exists (omega (arith, here.base)) (omega (arith, here.base, here.long)))
+    shows

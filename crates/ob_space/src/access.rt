@@ -14,7 +14,6 @@ ghost use Rattle.ob_space.specs.Reached.{IsReached, Reaches};
 
 use crate::Space;
 use ob_access::{Access, access_to};
-use ob_base::NoMemory;
 use ob_events::{event_of, make_word};
 use ob_flat::laws::{law_fields, law_layout, law_marks, law_zeros};
 use ob_frames::laws::law_objects;
@@ -54,6 +53,7 @@ impl Space {
         ensures access { as_access result ≡ access_of self.old w displacement kind }
         ensures reached { Reaches (as_access result) kind self.old }
         ensures kept { self.new ≡ self.old }
+        ensures links { KeepsLinks self.old.space self.new.space }
     {
         law_objects();
         self.frames.law_framed();
@@ -96,7 +96,7 @@ impl Space {
     }
 
     // Writes a granule outside of its object.
-    fn write_outside(&mut self, kind: LoadKind, object: u64, offset: i64, value: u64) -> Result<(), NoMemory>
+    fn write_outside(&mut self, kind: LoadKind, object: u64, offset: i64, value: u64) -> Result<(), ob_base::NoMemory>
         requires { Reaches (outside object offset) kind self.old }
         ensures no_memory { IsErr result → listed_cell object (granule offset) self.old.space.outside ≡ None }
         ensures space { OnOk result (self.new ≡ with_space self.old (after_outside_store self.old.settings.store kind object offset value self.old.space)) }
@@ -109,7 +109,7 @@ impl Space {
     }
 
     // Does a store that is not too far.
-    fn put(&mut self, access: Access, kind: LoadKind, value: u64) -> Result<(), NoMemory>
+    fn put(&mut self, access: Access, kind: LoadKind, value: u64) -> Result<(), ob_base::NoMemory>
         requires { Reaches (as_access access) kind self.old }
         ensures no_memory { IsErr result → IsUnlisted (as_access access) self.old }
         ensures space { OnOk result (self.new ≡ with_space self.old (space_after_store (as_access access) self.old.settings.store kind value self.old.space)) }
