@@ -1,5 +1,5 @@
 -- One object more.
-use Rattle.std.proofs.Common.{◌≡◌, ℕ, suc, ◌+◌, ◌<◌, ◌≤◌, ◌≢◌, ◌^◌, ◌⊎◌, Bool, true, false, ltb, List, [], ◌∷◌, length, map, arith, Option, Some, None, ap, subst, ⊎_elim, inl, inr, sym, ◌∙◌, refl}
+use Rattle.std.proofs.Common.{◌≡◌, ℕ, suc, ◌+◌, ◌<◌, ◌≤◌, ◌≢◌, ◌^◌, ◌⊎◌, Bool, true, false, ltb, List, [], ◌∷◌, arith, Option, Some, None, ap, subst, ⊎_elim, inl, inr, sym, ◌∙◌, refl}
 use Rattle.std.specs.List.{All, AllPairs, Contains}
 use Rattle.std.specs.Option.{option_map}
 use Rattle.std.proofs.lemmas.Bool.{cases_lt, lt-ltb, le-ltb}
@@ -12,8 +12,8 @@ use Rattle.ob_model.specs.Ordered.{before_or_after}
 use Rattle.ob_away.specs.Slots.{Descriptors}
 use Rattle.ob_objects.specs.Objects.{Objects, Precedes, AreApart, IsInOrder}
 use Rattle.ob_pointers.specs.Pointing.{Pointing, IsHeapPlace}
-use Rattle.ob_pointers.specs.Kept.{IsKept, Begins, HaveTwoNumbers, known, known_in, is_marked, numbered, number_at, slots_in, pointing_in}
-use Rattle.ob_pointers.proofs.Lists.{here, later, here_or_later, all_from, map_agree, map_twice, among_mapped}
+use Rattle.ob_pointers.specs.Kept.{IsKept, Begins, HaveTwoNumbers, known, known_in, numbered, number_at, slots_in, pointing_in}
+use Rattle.ob_pointers.proofs.Lists.{here, later, here_or_later, all_from, map_agree, among_mapped}
 use Rattle.ob_pointers.proofs.Known.{number_at_its_base}
 use Rattle.ob_pointers.proofs.Marks.{unmarked}
 
@@ -128,8 +128,9 @@ module _ (e : Entry) (entries : List Entry) (marks : List Bool) (slots : Slots) 
   kept_entered = record {
     in_order =
         pairs_entered Precedes e entries kept.in_order kept.in_order (λ f at. (
-        λ less. ⊎_elim (λ p. p) (λ p. absurd (omega arith)) (may.apart f at),
-        λ more. ⊎_elim (λ p. absurd (omega arith)) (λ p. p) (may.apart f at)));
+          λ less. ⊎_elim (λ p. p) (λ p. absurd (omega arith)) (may.apart f at),
+          λ more. ⊎_elim (λ p. absurd (omega arith)) (λ p. p) (may.apart f at),
+        ));
     numbers = pairs_entered HaveTwoNumbers e entries kept.in_order kept.numbers (λ f at. (λ less same. may.number f at (sym same), λ more same. may.number f at same));
     near = each_entered (λ (f : Entry). f.base + f.size < 2 ^ 63) may.end kept.near;
     places = each_entered (IsHeapPlace heap) may.place kept.places;

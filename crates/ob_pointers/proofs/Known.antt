@@ -6,7 +6,7 @@ use Rattle.std.specs.Option.{option_map}
 use Rattle.std.proofs.lemmas.Bool.{and_from, and_parts, eq-eqb, eqb-true, le-leb, leb-true}
 use Rattle.std.proofs.lemmas.List.Elements.{All-contains}
 use Rattle.ob_model.specs.declared.objects.Entry.{Entry}
-use Rattle.ob_model.specs.Entries.{Known, at_base, of_object, entry_at, holds_address, known_of, known_at}
+use Rattle.ob_model.specs.Entries.{Known, at_base, entry_at, holds_address, known_of, known_at}
 use Rattle.ob_objects.specs.Objects.{Precedes, IsInOrder}
 use Rattle.ob_code.specs.Pointers.{Target, into, by_address}
 use Rattle.ob_access.specs.declared.pointee.Pointee.{Pointee}

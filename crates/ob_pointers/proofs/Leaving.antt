@@ -1,18 +1,17 @@
 -- An object dies, or is freed and stays known.
-use Rattle.std.proofs.Common.{◌≡◌, ◌==◌, ℕ, ◌+◌, ◌*◌, ◌%◌, ◌<◌, ◌≤◌, ◌^◌, Bool, true, false, cond, not, List, length, get_or, get_or-set_same, map, arith, Option, Some, None, ap, subst, ⊎_elim, sym, ◌∙◌, refl}
-use Rattle.std.specs.List.{All, AllPairs, Contains}
+use Rattle.std.proofs.Common.{◌≡◌, ◌==◌, ℕ, ◌+◌, ◌*◌, ◌%◌, ◌<◌, ◌≤◌, ◌^◌, Bool, true, false, cond, not, List, length, get_or, get_or-set_same, arith, Option, Some, None, ap, subst, ⊎_elim, sym, ◌∙◌, refl}
+use Rattle.std.specs.List.{Contains}
 use Rattle.std.specs.Option.{option_map}
-use Rattle.std.proofs.lemmas.Bool.{cases_eq, cases_Bool, cases_lt, cond-true, cond-false, eq-eqb, ne_eqb, eqb-false, eqb-true, both_ways, false≢true, not-true, not_from_false}
-use Rattle.std.proofs.lemmas.List.{get_or_past, length-set}
-use Rattle.std.proofs.lemmas.List.Elements.{All-filter, All-contains}
+use Rattle.std.proofs.lemmas.Bool.{cases_eq, cond-true, cond-false, eq-eqb, ne_eqb, eqb-false, both_ways, false≢true, not-true}
+use Rattle.std.proofs.lemmas.List.Elements.{All-filter}
 use Rattle.std.proofs.lemmas.List.Kept.{AllPairs-filter}
 use Rattle.ob_model.specs.declared.objects.Entry.{Entry}
 use Rattle.ob_model.specs.Descriptors.{Pair, Slots, is_dying, surviving_pairs}
 use Rattle.ob_model.specs.Entries.{Known, without_base, surviving_known, freed_if, with_freed}
 use Rattle.ob_model.specs.Limits.{heap_start}
 use Rattle.ob_away.specs.Slots.{Descriptors, is_of, without}
-use Rattle.ob_objects.specs.Objects.{Objects, Precedes, IsInOrder}
-use Rattle.ob_pointers.specs.Pointing.{Pointing, IsAt, IsHeapPlace}
+use Rattle.ob_objects.specs.Objects.{Objects, Precedes}
+use Rattle.ob_pointers.specs.Pointing.{IsAt, IsHeapPlace}
 use Rattle.ob_pointers.specs.Kept.{IsKept, Begins, HaveTwoNumbers, mark_index, is_marked, with_mark, known, known_in, numbered, number_at, slots_in, pointing_in}
 use Rattle.ob_pointers.proofs.Lists.{among_kept, kept_among, filter_mapped, map_twice, mapped_from}
 use Rattle.ob_pointers.proofs.Known.{number_at_its_base, one_base}
@@ -88,8 +87,7 @@ module _ (entries : List Entry) (marks : List Bool) (slots : Slots) (heap : ℕ)
   cleared : (i : ℕ) → get_or (with_mark marks base false) i false ≡ true → (get_or marks i false ≡ true) × (heap_start + 16 * i ≡ base → ⊥)
   cleared i set =
       let apart : heap_start ≤ base → i ≡ mark_index base → ⊥ =
-      λ above same. false≢true (sym (get_or-set_same marks (mark_index base) false false (own_index above)) ∙ ap (λ (m : List Bool). get_or m (mark_index base) false) (sym (with_above marks base false above)) ∙ ap (λ n. get_or (with_mark marks base false) n false) (sym same) ∙ set) in
-      (
+      λ above same. false≢true (sym (get_or-set_same marks (mark_index base) false false (own_index above)) ∙ ap (λ (m : List Bool). get_or m (mark_index base) false) (sym (with_above marks base false above)) ∙ ap (λ n. get_or (with_mark marks base false) n false) (sym same) ∙ set) in (
         sym (at_index marks base i false apart) ∙ set,
         λ there. let above : heap_start ≤ base = omega arith in let e = index_there base above own_even in apart above (omega arith),
       )

@@ -1,5 +1,5 @@
 -- Lists under a map, a filter and a search, by what holds of the elements that occur.
-use Rattle.std.proofs.Common.{◌≡◌, ℕ, zero, suc, ◌+◌, ◌<◌, ◌≤◌, ◌⊎◌, Bool, true, false, cond, not, ltb, List, [], ◌∷◌, length, get_or, map, arith, Option, Some, None, ap, subst, ⊎_elim, inl, inr, sym, ◌∙◌, refl}
+use Rattle.std.proofs.Common.{◌≡◌, ℕ, zero, suc, ◌+◌, ◌<◌, ◌⊎◌, Bool, true, cond, not, ltb, List, [], ◌∷◌, length, get_or, map, arith, Option, Some, None, ap, subst, ⊎_elim, inl, inr, sym, ◌∙◌, refl}
 use Rattle.std.specs.List.{All, AllPairs, Contains, filter, find, position, position_or_len, count_by}
 use Rattle.std.specs.Option.{option_map}
 use Rattle.std.proofs.lemmas.Bool.{both_ways, cases_Bool, cases_order, cond-true, cond-false, false_from_ne_true}

@@ -1,5 +1,5 @@
 -- What a word names, by the table of slots.
-use Rattle.std.proofs.Common.{◌≡◌, ℕ, ℤ, length, ◌+◌, ◌-◌, ◌/◌, Bool, true, false, cond, List, ap, ⊎_elim, arith, Option, Some, None, sym, ◌∙◌, refl, subst}
+use Rattle.std.proofs.Common.{◌≡◌, ℕ, ℤ, length, ◌-◌, ◌/◌, Bool, true, false, cond, List, ap, ⊎_elim, Option, Some, None, sym, ◌∙◌, refl}
 use Rattle.std.specs.List.{Contains}
 use Rattle.std.specs.Option.{option_map}
 use Rattle.std.proofs.Math.ListN.{get_or-map}
@@ -8,9 +8,9 @@ use Rattle.std.proofs.lemmas.List.{get_or_past, get_or_default}
 use Rattle.ob_model.specs.declared.objects.Entry.{Entry}
 use Rattle.ob_model.specs.Descriptors.{Pair, Slots, pair_in, named_pair, is_slot_word}
 use Rattle.ob_model.specs.Limits.{slots_start, slot_distance}
-use Rattle.ob_model.specs.Entries.{Known, entry_at, known_of, at_base}
-use Rattle.ob_code.specs.Pointers.{Target, into, nothing, found, by_slot}
-use Rattle.ob_pointers.specs.Kept.{IsKept, known, known_in, number_of, numbered, number_at, slots_in}
+use Rattle.ob_model.specs.Entries.{Known, entry_at, known_of}
+use Rattle.ob_code.specs.Pointers.{into, nothing, found, by_slot}
+use Rattle.ob_pointers.specs.Kept.{IsKept, known, known_in, numbered, number_at, slots_in}
 use Rattle.ob_pointers.proofs.Known.{number_at_its_base, known_by_number, at_its_address}
 
 -- a slot that holds a pair is one of the slots
@@ -24,7 +24,6 @@ slot_among slots k pair is =
 renamed_if : (f : Pair → Pair) (b : Bool) (slot : Option Pair) → cond b (option_map f slot) None ≡ option_map f (cond b slot None)
 renamed_if f true slot = refl
 renamed_if f false slot = refl
-
 
 pub named_renamed : (entries : List Entry) (slots : Slots) (w : ℕ) → named_pair (slots_in entries slots) w ≡ option_map (numbered entries) (named_pair slots w)
 named_renamed entries slots w =

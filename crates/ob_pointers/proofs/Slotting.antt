@@ -1,6 +1,6 @@
 -- The slots' pairs name objects by their bases, and callers see them by their numbers: what is said of the ones is said of the
 -- others.
-use Rattle.std.proofs.Common.{◌≡◌, ◌==◌, ◌&&◌, ℕ, zero, suc, ◌<◌, ◌≤◌, ◌⊎◌, ◌↔◌, ℤ, Bool, true, false, cond, ltb, List, [], ◌∷◌, ◌++◌, length, set, map, Option, Some, None, Result, Ok, Err, unwrap_or, ap, subst, ⊎_elim, inl, inr, sym, ◌∙◌, refl, arith}
+use Rattle.std.proofs.Common.{◌≡◌, ◌==◌, ◌&&◌, ℕ, zero, suc, ◌<◌, ◌≤◌, ◌⊎◌, ◌↔◌, ℤ, Bool, ltb, List, [], ◌∷◌, ◌++◌, length, set, map, Option, Some, None, Result, Ok, Err, unwrap_or, ap, subst, ⊎_elim, inl, inr, sym, ◌∙◌, refl}
 use Rattle.std.specs.Prelude.{IsErr, OnErr, IfSome, is_some, is_none}
 use Rattle.std.specs.List.{Contains}
 use Rattle.std.specs.Option.{option_map, ForSome}
@@ -9,7 +9,7 @@ use Rattle.std.proofs.lemmas.Bool.{false≢true, cases_eq, cases_lt, cond-true, 
 use Rattle.std.proofs.lemmas.List.{map-append, map-set, length-map}
 use Rattle.std.proofs.lemmas.List.Elements.{Contains-push_cases}
 use Rattle.ob_model.specs.declared.objects.Entry.{Entry}
-use Rattle.ob_model.specs.Descriptors.{Pair, Slots, holds, same_pair, slot_of, pair_count, vacant, free_slot, put_slot, with_pair, word_of}
+use Rattle.ob_model.specs.Descriptors.{Pair, Slots, holds, slot_of, pair_count, vacant, free_slot, put_slot, with_pair, word_of}
 use Rattle.ob_code.specs.Pointers as pointers
 use Rattle.ob_code.specs.Pointers.{Shifted, slot_for, new_slot}
 use Rattle.ob_code.specs.State.{Space}
@@ -20,13 +20,13 @@ use Rattle.ob_access.specs.Pointees.{target_of}
 use Rattle.ob_away.specs.declared.table.Full.{Full}
 use Rattle.ob_away.specs.Slots.{Descriptors}
 use Rattle.ob_away.specs.Enters.{Enters}
-use Rattle.ob_objects.specs.Objects.{Objects, IsInOrder}
+use Rattle.ob_objects.specs.Objects.{Objects}
 use Rattle.ob_pointers.specs.declared.pointers.ShiftAnswer.{ShiftAnswer}
 use Rattle.ob_pointers.specs.declared.pointers.ShiftAnswer.TheVariants as answer
 use Rattle.ob_pointers.specs.Pointing.{Pointing, with_pointing, as_shifted}
 use Rattle.ob_pointers.specs.Placing.{IsSlotted, IsMoveOf, Places, as_answer}
 use Rattle.ob_pointers.specs.Kept.{IsKept, Begins, numbered, number_at, slots_in, pointing_in}
-use Rattle.ob_pointers.proofs.Lists.{here, later, here_or_later, nothing_in, position_mapped, count_mapped}
+use Rattle.ob_pointers.proofs.Lists.{here, later, here_or_later, position_mapped, count_mapped}
 use Rattle.ob_pointers.proofs.Known.{one_base, one_number, number_at_its_base}
 
 -- two objects have one number where they have one base

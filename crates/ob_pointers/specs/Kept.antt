@@ -1,6 +1,6 @@
 -- What the program keeps: the table of objects, a mark for each place of the heap where a freed object begins, and the table of
 -- slots, whose pairs name an object by its base.
-use Rattle.std.specs.Prelude.{◌≡◌, ◌≢◌, ℕ, ◌+◌, ◌-◌, ◌*◌, ◌/◌, ◌<◌, ◌^◌, Bool, true, false, nat_lt, ℤ, pos, List, length, map, Option, Some, None, unwrap_or, slice_index_or, slice_set, if◌then◌else◌}
+use Rattle.std.specs.Prelude.{◌≡◌, ◌≢◌, ℕ, ◌+◌, ◌-◌, ◌*◌, ◌/◌, ◌<◌, ◌^◌, Bool, true, false, nat_lt, ℤ, pos, List, length, map, Option, Some, None, slice_index_or, slice_set, if◌then◌else◌}
 use Rattle.std.specs.List.{All, AllPairs, Contains}
 use Rattle.std.specs.Option.{option_map}
 use Rattle.ob_model.specs.declared.objects.Entry.{Entry}

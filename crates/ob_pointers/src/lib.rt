@@ -14,3 +14,5 @@ pub use pointers::{Pointers, ShiftAnswer};
 mod freed;
 mod named;
 mod pointers;
+#[cfg(test)]
+mod tests;

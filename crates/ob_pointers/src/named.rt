@@ -61,7 +61,12 @@ fn at_slot(objects: &mut ObjectTable, marks: &[bool], away: &AwayTable, w: u64) 
 }
 
 /// What a word names: the object in which it is an address, or else the one of its slot.
-pub(crate) fn named(objects: &mut ObjectTable, marks: &[bool], away: &AwayTable, w: u64) -> Option<Pointee>
+pub(crate) fn named(
+    objects: &mut ObjectTable,
+    marks: &[bool],
+    away: &AwayTable,
+    w: u64,
+) -> Option<Pointee>
     requires { (heap : ℕ) × IsKept objects.old.entries marks.now away.now.slots heap }
     ensures target { target_of result ≡ by_address (known_at w (known_in marks.now objects.old.entries)) w (by_slot (named_pair (slots_in objects.old.entries away.now.slots) w) (known_in marks.now objects.old.entries)) }
     ensures known { IfSome result (IsKnownPointee (known_in marks.now objects.old.entries)) }

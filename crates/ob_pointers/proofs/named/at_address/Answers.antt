@@ -1,7 +1,6 @@
-use Rattle.std.proofs.Common.{◌≡◌, ◌-◌, ℤ, pos, Bool, Some, sym, ◌∙◌, ap, arith, rules, w64}
+use Rattle.std.proofs.Common.{◌-◌, ℤ, pos, Bool, Some, sym, ◌∙◌, ap, rules, w64}
 use Rattle.std.specs.Option.{option_map}
 use Rattle.std.proofs.lemmas.Int.{to_z_pos}
-use Rattle.ob_access.specs.declared.pointee.Pointee.{Pointee}
 use Rattle.ob_pointers.specs.Kept.{pointee_at}
 use Rattle.ob_pointers.proofs.Known.{at_address}
 use Rattle.ob_pointers.proofs.named.at_address.Goals as goal

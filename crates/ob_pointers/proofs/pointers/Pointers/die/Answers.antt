@@ -1,5 +1,5 @@
-use Rattle.std.proofs.Common.{◌≡◌, ◌==◌, ap, sym, ◌∙◌, subst}
-use Rattle.ob_model.specs.Descriptors.{Slots, surviving_pairs}
+use Rattle.std.proofs.Common.{◌==◌, ap, sym, ◌∙◌, subst}
+use Rattle.ob_model.specs.Descriptors.{surviving_pairs}
 use Rattle.ob_model.specs.Entries.{surviving_known}
 use Rattle.ob_away.specs.Slots.{Descriptors}
 use Rattle.ob_pointers.specs.Pointing.{Pointing, IsAt}

@@ -1,4 +1,4 @@
-use Rattle.std.proofs.Common.{◌≡◌, Bool, List, ap, sym, ◌∙◌, subst}
+use Rattle.std.proofs.Common.{Bool, List, ap, sym, ◌∙◌, subst}
 use Rattle.ob_model.specs.Entries.{with_freed}
 use Rattle.ob_pointers.specs.Pointing.{Pointing, IsAt}
 use Rattle.ob_pointers.specs.Kept.{IsKept}

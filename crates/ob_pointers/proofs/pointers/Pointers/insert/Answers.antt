@@ -1,11 +1,11 @@
-use Rattle.std.proofs.Common.{◌≡◌, List, ap, sym, ◌∙◌, subst}
+use Rattle.std.proofs.Common.{List, ap, sym, ◌∙◌, subst}
 use Rattle.ob_model.specs.declared.objects.Entry.{Entry}
 use Rattle.ob_model.specs.Entries.{with_live}
 use Rattle.ob_objects.specs.Objects.{AreApart}
 use Rattle.ob_pointers.specs.Pointing.{Pointing}
 use Rattle.ob_pointers.specs.Kept.{IsKept}
 use Rattle.ob_pointers.proofs.Lists.{all_from}
-use Rattle.ob_pointers.proofs.Entering.{Asks, MayEnter, may_enter, kept_entered, pointing_entered}
+use Rattle.ob_pointers.proofs.Entering.{Asks, may_enter, kept_entered, pointing_entered}
 use Rattle.ob_pointers.proofs.pointers.Pointers.insert.Goals as goal
 
 pub insert-requires-clause-apart : goal.insert-requires-clause-apart

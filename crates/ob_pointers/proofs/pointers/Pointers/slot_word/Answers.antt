@@ -1,14 +1,13 @@
-use Rattle.std.proofs.Common.{◌≡◌, Some, Result, ℕ, sym, ap, ◌∙◌, subst, refl, w64, to_z, of_z}
+use Rattle.std.proofs.Common.{◌≡◌, Some, Result, ℕ, sym, ◌∙◌, subst, refl, w64, to_z, of_z}
 use Rattle.std.proofs.lemmas.Int.{to_z-of_z}
 use Rattle.std.specs.List.{Contains}
-use Rattle.ob_model.specs.declared.objects.Entry.{Entry}
 use Rattle.ob_access.specs.declared.pointee.Pointee.{Pointee}
 use Rattle.ob_pointers.specs.declared.pointers.ShiftAnswer.{ShiftAnswer}
 use Rattle.ob_pointers.specs.Pointing.{Pointing, IsKnownPointee}
-use Rattle.ob_pointers.specs.Placing.{IsSlotted, as_answer}
-use Rattle.ob_pointers.specs.Kept.{IsKept, Begins, pointing_in}
+use Rattle.ob_pointers.specs.Placing.{IsSlotted}
+use Rattle.ob_pointers.specs.Kept.{pointing_in}
 use Rattle.ob_pointers.proofs.Sound.{entry_among}
-use Rattle.ob_pointers.proofs.Slotting.{Outcome, IsSought, outcome_at, kept_by, slotted}
+use Rattle.ob_pointers.proofs.Slotting.{outcome_at, kept_by, slotted}
 use Rattle.ob_pointers.proofs.pointers.Pointers.slot_word.Goals as goal
 
 pub invariant_of-self : goal.invariant_of-self
