@@ -1,142 +1,115 @@
--- Entering a function: what the stack has room for, and what holds of the calls in progress after it.
-use Rattle.std.proofs.Common.{◌≡◌, ℕ, ◌+◌, ◌%◌, ◌<◌, ◌≤◌, List, [], ◌∷◌, ◌++◌, length, refl, ap, ◌∙◌, arith}
-use Rattle.std.specs.Global.{Vec}
-use Rattle.std.specs.Vec.{vec_capacity}
-use Rattle.ob_flat.specs.Memory.{Memory, field}
+-- Entering a function.
+use Rattle.std.proofs.Common.{◌≡◌, ℕ, ◌+◌, ◌*◌, ◌<◌, ◌≤◌, ◌&&◌, Bool, true, false, nat_lt, List, [], ◌∷◌, length, map, All, arith, ap, sym, subst, ◌∙◌, refl, ⊎_elim, ◌⊎◌, inl, inr}
+use Rattle.std.specs.Prelude.{slice_index_or}
+use Rattle.std.specs.List.{Contains}
+use Rattle.std.proofs.lemmas.List.Elements.{All-contains, All-weaker, All-contains_itself}
+use Rattle.ob_model.specs.declared.objects.Entry.{Entry}
+use Rattle.ob_model.specs.declared.objects.Sort.{Sort}
+use Rattle.ob_model.specs.declared.objects.Sort.TheVariants.{Static, Automatic, Heap}
+use Rattle.ob_model.specs.declared.settings.RunSettings.{RunSettings}
+use Rattle.ob_model.specs.Entries.{Known}
+use Rattle.ob_model.specs.Objects.{is_among}
 use Rattle.ob_code.specs.declared.image.FunctionRow.{FunctionRow}
 use Rattle.ob_code.specs.declared.image.LocalRow.{LocalRow}
-use Rattle.ob_code.specs.Frames.{entered, frame_length, function_at, next_base, top_base, with_locals}
+use Rattle.ob_code.specs.Frames.{allowances, entered, frame_length, function_at, is_full, local_entry, next_base, with_locals}
 use Rattle.ob_code.specs.State.{Call}
-use Rattle.ob_space.specs.declared.calls.Active.{Active}
-use Rattle.ob_space.specs.Calls.{call_in, calls_in}
-use Rattle.ob_space.specs.Kept.{HasStack, IsKept, space_in}
-use Rattle.ob_space.specs.Links.{AllHaveLinks}
-use Rattle.ob_space.specs.Writes.{IsOnStack, frame_opened}
-use Rattle.ob_space.proofs.CallLists.{calls_in-push, calls_in-same, calls_are_few, frame_in_blocks, frame_is_long, frames_begin, frames_end, frames_in_blocks, length-calls_in}
+use Rattle.ob_frames.specs.Framed.{Framed, Enters, opened}
+use Rattle.ob_frames.specs.Kept.{IsFramed}
+use Rattle.ob_lifetimes.specs.Living.{AreKnown, AreOfRows, IsSound, LiesBySort, LiesOutside, Living}
+use Rattle.ob_standing.specs.Laws.{IsGivenOut}
+use Rattle.ob_space.specs.Kept.{HasObjects, HaveObjects, IsKept, IsOfCall, IsOfCalls, LiesAsSort, LiesIn, loaded_in}
+use Rattle.ob_space.proofs.Framing.{frames_begin, more_rows_are_few, frames_end}
+use Rattle.ob_space.proofs.Lists.{all_from_members, all_locals, contains_map, locals_known, locals_old}
+use Rattle.ob_space.proofs.Owning.{IsEntryOf, KeepsCalls, among_above, calls_stay, of_calls_end}
 
--- a frame of this function has its place on the stack, and the list of calls has one
-pub record HasPlace (f : FunctionRow) (active : List Active) (end : ℕ) : Type 0 where
-  pub least : 16 ≤ frame_length f
-  pub most : frame_length f ≤ f.allowance
-  pub inside : IsOnStack end (frame_length f)
-  pub base : end % 8 ≡ 0
-  pub whole : frame_length f % 8 ≡ 0
-  pub count : length active < 65536
+-- ---- the stack has room
 
-has_place_at : (functions : List FunctionRow) (heap : ℕ) (m : Memory) (active : Vec Active) (taken end f : ℕ) →
-    IsKept functions heap m active taken end →
-    f < length functions →
-    taken + (function_at functions f).allowance ≤ 1048576 →
-    HasPlace (function_at functions f) active.items end
-has_place_at functions heap m active taken end f kept known room =
-    let sound = (kept.rows f known).sound in
-    let covers : frame_length (function_at functions f) ≤ (function_at functions f).allowance = sound.covers in
-    let long : 16 ≤ frame_length (function_at functions f) = frame_is_long (function_at functions f) sound in
+pub room_for : (f : Framed) (function : ℕ) → is_full f.functions function f.calls ≡ false → (function_at f.functions function).allowance + allowances f.functions f.calls ≤ 1048576
+room_for f function room = grind arith
+
+pub frame_ends : (f : Framed) (function : ℕ) → IsFramed f → function < length f.functions → is_full f.functions function f.calls ≡ false → next_base f.functions f.calls + frame_length (function_at f.functions function) ≤ 33554432
+frame_ends f function framed known room =
+    omega (arith, room_for f function room, frames_end f.functions f.calls framed.rows framed.stacked, (framed.rows function known).covers)
+
+outside_by_sort : (s : Sort) (f : Framed) (heap : ℕ) (l : Living) (k : Known) (end : ℕ) → IsFramed f → LiesAsSort s f k.entry → LiesBySort s heap l.blocks k → end ≤ 33554432 → LiesOutside (next_base f.functions f.calls) end k
+outside_by_sort Static f heap l k end framed lies by_sort most =
+    inl (omega (arith, frames_begin f.functions f.calls framed.stacked, lies.within.ends, framed.memory.laid_out.statics))
+outside_by_sort Automatic f heap l k end framed lies by_sort most =
+    inl (omega (arith, of_calls_end f.functions f.calls k.entry framed.rows framed.stacked lies))
+outside_by_sort Heap f heap l k end framed lies by_sort most =
+    inr (omega (arith, by_sort.2.base))
+
+pub all_outside : (f : Framed) (l : Living) (end : ℕ) → IsFramed f → IsSound l → All (LiesIn f) l.entries → end ≤ 33554432 → All (LiesOutside (next_base f.functions f.calls) end) l.entries
+all_outside f l end framed sound places most =
+    all_from_members (LiesOutside (next_base f.functions f.calls) end) l.entries
+    (λ k among. outside_by_sort k.entry.sort f l.heap l k end framed (All-contains (LiesIn f) l.entries k places among) (All-contains (λ (k : Known). LiesBySort k.entry.sort l.heap l.blocks k) l.entries k sound.places among) most)
+
+-- ---- what holds then
+
+abbrev pub entered_living : FunctionRow → ℕ → Living → Living
+entered_living row base l =
+    record l { entries = with_locals base l.next row.locals l.entries; locals = l.locals + length row.locals; next = l.next + row.vars }
+
+-- the objects of the new call
+own_rows : (base first : ℕ) (row : FunctionRow) (entries : List Known) → All (IsGivenOut first) entries → AreOfRows (is_among first row.vars) base first row.locals (with_locals base first row.locals entries)
+own_rows base first row entries given =
+    let Q : Known → Type 0 = λ k. is_among first row.vars k.entry.object ≡ true → Contains (map (local_entry base first) row.locals) k.entry in
+    all_locals Q base first row.locals entries
+    (all_from_members (λ (r : LocalRow). Q (record { entry = local_entry base first r; freed = false })) row.locals (λ r among is. contains_map (local_entry base first) row.locals r among))
+    (All-weaker (IsGivenOut first) Q (λ k was is. absurd (omega (arith, was, among_above first row.vars k.entry.object is))) entries given)
+
+-- the objects of before stay, and the others have new numbers
+keeps_entered : (base first : ℕ) (rows : List LocalRow) (entries : List Known) → KeepsCalls first entries (with_locals base first rows entries)
+keeps_entered base first rows entries =
+    let Q : Known → Type 0 = λ k. (first ≤ k.entry.object) ⊎ IsEntryOf entries k.entry in
     record {
-      least = long;
-      most = covers;
-      inside = record {
-        begins = omega (arith, frames_begin functions (calls_in m active.items) kept.stacked, kept.next);
-        ends = omega (arith, frames_end functions (calls_in m active.items) kept.rows kept.stacked, kept.next, kept.sum);
-      };
-      base = omega (arith, frames_in_blocks functions (calls_in m active.items) kept.rows kept.stacked, kept.next);
-      whole = omega (arith, frame_in_blocks (function_at functions f) sound);
-      count = omega (arith, calls_are_few functions (calls_in m active.items) kept.rows kept.stacked, length-calls_in m active.items, kept.sum);
+      stay = λ k among sort freed below. locals_old base first rows entries k among;
+      come = λ k among. All-contains Q (with_locals base first rows entries) k
+          (all_locals Q base first rows entries
+          (all_from_members (λ (r : LocalRow). Q (record { entry = local_entry base first r; freed = false })) rows (λ r of. inl (omega arith)))
+          (all_from_members Q entries (λ k of. inr (record { k = k; known = of; is = refl }))))
+          among;
     }
 
-pub has_place : (functions : List FunctionRow) (heap : ℕ) (m : Memory) (active : Vec Active) (taken end f : ℕ) (row : FunctionRow) →
-    row ≡ function_at functions f →
-    IsKept functions heap m active taken end →
-    f < length functions →
-    taken + row.allowance ≤ 1048576 →
-    HasPlace row active.items end
-has_place functions heap m active taken end f row is kept known room =
-    rw is (has_place_at functions heap m active taken end f kept known (omega (arith, ap (λ (r : FunctionRow). r.allowance) is)))
+lies_entered : (s : Sort) (function link first : ℕ) (f : Framed) (e : Entry) → LiesAsSort s f e → LiesAsSort s (opened function link first f) e
+lies_entered Static function link first f e lies = lies
+lies_entered Automatic function link first f e lies = inr lies
+lies_entered Heap function link first f e lies = lies
 
-abbrev pub call_of : ℕ → ℕ → ℕ → ℕ → Call
-call_of f link base first = record { function = f; link = link; base = base; first = first }
+places_entered : (function link first : ℕ) (f : Framed) (entries : List Known) → All (LiesIn f) entries → All (LiesIn (opened function link first f)) (with_locals (next_base f.functions f.calls) first (function_at f.functions function).locals entries)
+places_entered function link first f entries places =
+    let rows : List LocalRow = (function_at f.functions function).locals in
+    let base : ℕ = next_base f.functions f.calls in
+    let P : Known → Type 0 = LiesIn (opened function link first f) in
+    all_locals P base first rows entries
+    (all_from_members (λ (r : LocalRow). P (record { entry = local_entry base first r; freed = false })) rows (λ r of. inl (contains_map (local_entry base first) rows r of)))
+    (All-weaker (LiesIn f) P (λ k lies. lies_entered k.entry.sort function link first f k.entry lies) entries places)
 
-pub entered_calls : (m n : Memory) (before after : List Active) (a : Active) (link : ℕ) →
-    after ≡ before ++ a ∷ [] →
-    field n a.base 8 ≡ link →
-    AllHaveLinks n (calls_in m before) →
-    calls_in n after ≡ call_of a.function link a.base a.first ∷ calls_in m before
-entered_calls m n before after a link is linked others =
-    let head : call_in n a ≡ call_of a.function link a.base a.first = ap (λ (w : ℕ). call_of a.function w a.base a.first) linked in
-    let rest = calls_in-same m n before others in
-    let whole = ap (calls_in n) is ∙ calls_in-push n before a in
-    cc
+kept_at : (f : Framed) (l : Living) (settings : RunSettings) (function link : ℕ) → IsFramed f → IsSound l → IsKept f l settings → IsKept (opened function link l.next f) (entered_living (function_at f.functions function) (next_base f.functions f.calls) l) settings
+kept_at f l settings function link framed sound kept = record {
+  settled = record { profile = kept.settled.profile; cap = kept.settled.cap; away = kept.settled.away; heap = kept.settled.heap; memory = kept.settled.memory; statics = kept.settled.statics };
+  count = omega (arith, kept.count);
+  calls = (record {
+    known = locals_known (next_base f.functions f.calls) l.next (function_at f.functions function).locals l.entries;
+    own = own_rows (next_base f.functions f.calls) l.next (function_at f.functions function) l.entries sound.given_out;
+    numbers = omega arith;
+  }, calls_stay f.functions l.entries (with_locals (next_base f.functions f.calls) l.next (function_at f.functions function).locals l.entries) l.next f.calls framed.rows framed.stacked (keeps_entered (next_base f.functions f.calls) l.next (function_at f.functions function).locals l.entries) kept.calls l.next (omega arith));
+  places = places_entered function link l.next f l.entries kept.places;
+}
 
--- what entering a function does to memory and to the list of calls: the new frame's links, those of the calls around it, and
--- the calls in progress
-pub record IsOpen (m n : Memory) (before after : List Active) (end f to first : ℕ) : Type 0 where
-  pub stack : HasStack n
-  pub heap : n.heap ≡ m.heap
-  pub link : field n end 8 ≡ to
-  pub caller : field n (end + 8) 8 ≡ top_base (calls_in m before)
-  pub others : AllHaveLinks n (calls_in m before)
-  pub calls : calls_in n after ≡ call_of f to end first ∷ calls_in m before
+pub row_is : (f g : Framed) (function link first base : ℕ) (row : FunctionRow) → Enters function link first base f g → row ≡ function_at g.functions function → row ≡ function_at f.functions function
+row_is f g function link first base row enters is = is ∙ ap (λ (x : Framed). function_at x.functions function) enters.framed
 
-kept_entered_at : (functions : List FunctionRow) (heap : ℕ) (m n : Memory) (before after : Vec Active) (taken end f link first : ℕ) →
-    IsKept functions heap m before taken end →
-    f < length functions →
-    taken + (function_at functions f).allowance ≤ 1048576 →
-    IsOpen m n before.items after.items end f link first →
-    65536 ≤ vec_capacity after →
-    IsKept functions heap n after (taken + (function_at functions f).allowance) (end + frame_length (function_at functions f))
-kept_entered_at functions heap m n before after taken end f link first kept known room opened capacity =
-    let calls = opened.calls in
-    record {
-      rows = kept.rows;
-      memory = opened.stack;
-      heap_bytes = opened.heap ∙ kept.heap_bytes;
-      stacked = rw calls (known, kept.next, kept.stacked);
-      linked = rw calls (record { link = opened.link; caller = opened.caller }, opened.others);
-      sum = rw calls (omega (arith, kept.sum));
-      room = room;
-      next = rw calls refl;
-      capacity = capacity;
-    }
+pub kept_entered : (f g : Framed) (l m : Living) (settings : RunSettings) (function link first base : ℕ) (row : FunctionRow) → IsFramed f → IsSound l → IsKept f l settings → Enters function link first base f g → first ≡ l.next → row ≡ function_at g.functions function → m ≡ entered_living row base l → IsKept g m settings
+kept_entered f g l m settings function link first base row framed sound kept enters next is living =
+    let same : row ≡ function_at f.functions function = row_is f g function link first base row enters is in
+    let frames : g ≡ opened function link l.next f = subst (λ (n : ℕ). g ≡ opened function link n f) next enters.framed in
+    let place : base ≡ next_base f.functions f.calls = enters.place in
+    rw (frames, living, same, place) (kept_at f l settings function link framed sound kept)
 
-pub kept_entered : (functions : List FunctionRow) (heap : ℕ) (m n : Memory) (before after : Vec Active) (taken end f link first : ℕ) (row : FunctionRow) (long : ℕ) →
-    row ≡ function_at functions f →
-    long ≡ frame_length row →
-    IsKept functions heap m before taken end →
-    f < length functions →
-    taken + row.allowance ≤ 1048576 →
-    IsOpen m n before.items after.items end f link first →
-    65536 ≤ vec_capacity after →
-    IsKept functions heap n after (taken + row.allowance) (end + long)
-kept_entered functions heap m n before after taken end f link first row long is measured kept known room opened capacity =
-    rw (measured, is)
-    (kept_entered_at functions heap m n before after taken end f link first kept known (omega (arith, ap (λ (r : FunctionRow). r.allowance) is)) opened capacity)
-
-no_locals : (base first : ℕ) (locals : List LocalRow) → locals ≡ [] → with_locals base first locals [] ≡ []
-no_locals base first locals none = ap (λ (ls : List LocalRow). with_locals base first ls []) none
-
-entered_space_at : (functions : List FunctionRow) (m n : Memory) (before after : List Active) (f link next : ℕ) →
-    (function_at functions f).locals ≡ [] →
-    n ≡ frame_opened (next_base functions (calls_in m before)) (frame_length (function_at functions f)) link (top_base (calls_in m before)) m →
-    calls_in n after ≡ call_of f link (next_base functions (calls_in m before)) next ∷ calls_in m before →
-    space_in n after (next + (function_at functions f).vars) ≡ entered functions f link (space_in m before next)
-entered_space_at functions m n before after f link next none memory calls =
-    let entries = no_locals (next_base functions (calls_in m before)) next (function_at functions f).locals none in
-    rw (calls, memory, entries) refl
-
--- the numbers that a program finds for an entry
-pub record IsMeasured (functions : List FunctionRow) (outer : List Call) (f end long caller vars : ℕ) : Type 0 where
-  pub place : end ≡ next_base functions outer
-  pub length : long ≡ frame_length (function_at functions f)
-  pub caller_base : caller ≡ top_base outer
-  pub objects : vars ≡ (function_at functions f).vars
-
-pub entered_space : (functions : List FunctionRow) (m n : Memory) (before after : List Active) (f link next end long caller vars : ℕ) →
-    (function_at functions f).locals ≡ [] →
-    IsMeasured functions (calls_in m before) f end long caller vars →
-    n ≡ frame_opened end long link caller m →
-    calls_in n after ≡ call_of f link end next ∷ calls_in m before →
-    space_in n after (next + vars) ≡ entered functions f link (space_in m before next)
-entered_space functions m n before after f link next end long caller vars none is memory calls =
-    let memory_at : n ≡ frame_opened (next_base functions (calls_in m before)) (frame_length (function_at functions f)) link (top_base (calls_in m before)) m = rw (← is.place, ← is.length, ← is.caller_base) memory in
-    let calls_at : calls_in n after ≡ call_of f link (next_base functions (calls_in m before)) next ∷ calls_in m before = rw (← is.place) calls in
-    rw is.objects (entered_space_at functions m n before after f link next none memory_at calls_at)
+pub entered_space : (f g : Framed) (l m : Living) (settings : RunSettings) (function link first base : ℕ) (row : FunctionRow) → Enters function link first base f g → first ≡ l.next → row ≡ function_at g.functions function → m ≡ entered_living row base l → (loaded_in g m settings).space ≡ entered f.functions function link (loaded_in f l settings).space
+entered_space f g l m settings function link first base row enters next is living =
+    let same : row ≡ function_at f.functions function = row_is f g function link first base row enters is in
+    let frames : g ≡ opened function link l.next f = subst (λ (n : ℕ). g ≡ opened function link n f) next enters.framed in
+    let place : base ≡ next_base f.functions f.calls = enters.place in
+    rw (frames, living, same, place) refl

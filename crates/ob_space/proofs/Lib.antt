@@ -1,5 +1,12 @@
-pub mod StackWrites
-pub mod CallLists
+pub mod Lists
+pub mod Framing
+pub mod Owning
 pub mod Entering
-pub mod Changing
-pub mod Nesting
+pub mod Leaving
+pub mod Writing
+pub mod Reaching
+pub mod Linking
+pub mod Allocating
+pub mod Showing
+pub mod Laying
+pub mod Keeping

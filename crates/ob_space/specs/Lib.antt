@@ -1,8 +1,5 @@
-pub mod Unbuilt
-pub mod Calls
-pub mod Writes
-pub mod Links
 pub mod Loaded
+pub mod Accesses
+pub mod Granules
 pub mod Kept
-pub mod Examples
-pub mod Laws
+pub mod Reached

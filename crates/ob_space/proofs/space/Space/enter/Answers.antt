@@ -1,110 +1,53 @@
-use Rattle.std.proofs.Common.{◌≡◌, ◌+◌, ◌<◌, ◌≤◌, false, List, [], ◌∷◌, length, ap, ◌∙◌, arith}
-use Rattle.std.proofs.lemmas.Bool.{le-ltb}
-use Rattle.ob_flat.specs.Memory.{Memory}
+use Rattle.std.proofs.Common.{◌≡◌, ◌+◌, ◌<◌, ◌≤◌, length, arith, ap, sym, subst, ◌∙◌}
 use Rattle.ob_code.specs.declared.image.FunctionRow.{FunctionRow}
-use Rattle.ob_code.specs.Frames.{allowances, entered, frame_length, function_at, is_full, top_base}
+use Rattle.ob_code.specs.Frames.{entered, frame_length, function_at, next_base}
+use Rattle.ob_code.specs.Rules.{IsFrameSound}
 use Rattle.ob_code.specs.State.{Space}
-use Rattle.ob_space.specs.declared.calls.Active.{Active}
-use Rattle.ob_space.specs.Calls.{calls_in}
-use Rattle.ob_space.specs.Kept.{space_in}
-use Rattle.ob_space.specs.Links.{AllHaveLinks}
+use Rattle.ob_frames.specs.Framed.{Enters, Framed}
+use Rattle.ob_lifetimes.specs.Living.{LiesOutside}
+use Rattle.ob_standing.specs.Laws.{KeepsStanding}
+use Rattle.ob_space.specs.Kept.{loaded_in}
 use Rattle.ob_space.specs.Loaded.{Loaded}
-use Rattle.ob_space.proofs.CallLists.{keeps_links, links_behind}
-use Rattle.ob_space.proofs.Entering.{HasPlace, IsMeasured, IsOpen, call_of, has_place, entered_calls, entered_space, kept_entered}
+use Rattle.ob_space.proofs.Entering.{all_outside, entered_space, frame_ends, kept_entered, room_for, row_is}
+use Rattle.ob_space.proofs.Framing.{frames_begin, more_rows_are_few}
 use Rattle.ob_space.proofs.space.Space.enter.Goals as goal
 
-pub returns-then-allowance-self-clause-links : goal.returns-then-allowance-self-clause-links
-returns-then-allowance-self-clause-links c =
-    let space : Space = space_in c.self.inside.flat c.self.inside.calls.items c.self.inside.next in
-    rw (← c.self.view_is) (keeps_links space space c.self.invariant.linked)
+row_here : (c : goal.After-row) → c.row.result.now ≡ function_at c.self.inside.frames.functions c.args.function
+row_here c = row_is c.self.inside.frames c.enter.new.self c.args.function c.args.link c.next.result c.in_ok-base.base c.row.result.now c.in_ok-base.ensures.answer c.row.ensures
 
-place_before : (c : goal.After-open_frame-arg-1) → HasPlace c.row_of-row.result.now c.self.inside.calls.items c.self.inside.end
-place_before c =
-    let known : c.args.function < length c.self.inside.functions = rw (← c.self.view_is) at c.requires.known in
-    let row = c.row_of-row.ensures ∙ ap (λ (fs : List FunctionRow). function_at fs c.args.function) c.as_slice.ensures in
-    has_place c.self.inside.functions c.self.inside.settings.heap c.self.inside.flat c.self.inside.calls c.self.inside.taken c.self.inside.end c.args.function c.row_of-row.result.now row c.self.invariant known (omega (arith, c.if-allowance-self.false, c.self.invariant.room))
+known : (c : goal.After-row) → c.args.function < length c.self.inside.frames.functions
+known c = subst (λ (s : Loaded). c.args.function < length s.functions) (sym c.self.view_is) c.requires.known
 
-pub open_frame-requires-clause-inside : goal.open_frame-requires-clause-inside
-open_frame-requires-clause-inside c = rw c.frame_length-length.ensures (place_before c).inside
+pub enter-requires-2-clause-stack : goal.enter-requires-2-clause-stack
+enter-requires-2-clause-stack c =
+    rw c.in_ok-base.ensures.answer.place (frames_begin c.self.inside.frames.functions c.self.inside.frames.calls c.law_framed.ensures.stacked)
 
-pub open_frame-requires-clause-base : goal.open_frame-requires-clause-base
-open_frame-requires-clause-base c = (place_before c).base
+pub enter-requires-2-clause-end : goal.enter-requires-2-clause-end
+enter-requires-2-clause-end c =
+    rw (row_here c, c.in_ok-base.ensures.answer.place)
+    (frame_ends c.self.inside.frames c.args.function c.law_framed.ensures (known c) c.in_ok-base.ensures.answer.room)
 
-pub add_call-requires : goal.add_call-requires
-add_call-requires c =
-    let known : c.args.function < length c.self.inside.functions = rw (← c.self.view_is) at c.requires.known in
-    let row = c.row_of-row.ensures ∙ ap (λ (fs : List FunctionRow). function_at fs c.args.function) c.as_slice.ensures in
-    let place = has_place c.self.inside.functions c.self.inside.settings.heap c.self.inside.flat c.self.inside.calls c.self.inside.taken c.self.inside.end c.args.function c.row_of-row.result.now row c.self.invariant known (omega (arith, c.if-allowance-self.false, c.self.invariant.room)) in
-    omega (arith, place.count, c.self.invariant.capacity)
+pub enter-requires-2-clause-sound : goal.enter-requires-2-clause-sound
+enter-requires-2-clause-sound c = rw (row_here c) (c.law_framed.ensures.rows c.args.function (known c))
 
-place_after : (c : goal.After-self-1) → HasPlace c.row_of-row.result.now c.self.inside.calls.items c.self.inside.end
-place_after c =
-    let known : c.args.function < length c.self.inside.functions = rw (← c.self.view_is) at c.requires.known in
-    let row = c.row_of-row.ensures ∙ ap (λ (fs : List FunctionRow). function_at fs c.args.function) c.as_slice.ensures in
-    has_place c.self.inside.functions c.self.inside.settings.heap c.self.inside.flat c.self.inside.calls c.self.inside.taken c.self.inside.end c.args.function c.row_of-row.result.now row c.self.invariant known (omega (arith, c.if-allowance-self.false, c.self.invariant.room))
+pub enter-requires-2-clause-few : goal.enter-requires-2-clause-few
+enter-requires-2-clause-few c =
+    rw (row_here c)
+    (omega (arith, c.self.invariant.count, more_rows_are_few c.self.inside.frames.functions c.args.function c.self.inside.frames.calls c.law_framed.ensures.rows (known c) c.law_framed.ensures.stacked (room_for c.self.inside.frames c.args.function c.in_ok-base.ensures.answer.room)))
 
-pub overflow_add-self-2 : goal.overflow_add-self-2
-overflow_add-self-2 c = omega (arith, (place_after c).inside.ends, c.frame_length-length.ensures)
+pub enter-requires-2-clause-free : goal.enter-requires-2-clause-free
+enter-requires-2-clause-free c =
+    rw (row_here c, c.in_ok-base.ensures.answer.place)
+    (all_outside c.self.inside.frames c.self.inside.living (next_base c.self.inside.frames.functions c.self.inside.frames.calls + frame_length (function_at c.self.inside.frames.functions c.args.function)) c.law_framed.ensures c.stands.ensures c.self.invariant.places
+    (frame_ends c.self.inside.frames c.args.function c.law_framed.ensures (known c) c.in_ok-base.ensures.answer.room))
 
--- ---- what holds at the end
+pub invariant_of-self-2 : goal.invariant_of-self-2
+invariant_of-self-2 c =
+    kept_entered c.self.inside.frames c.enter.new.self c.self.inside.living c.enter-2.new.self c.self.inside.settings c.args.function c.args.link c.next.result c.in_ok-base.base c.row.result.now c.law_framed.ensures c.stands.ensures c.self.invariant c.in_ok-base.ensures.answer c.next.ensures c.row.ensures c.enter-2.ensures
 
-known : (c : goal.After-self-3-1) → c.args.function < length c.self.inside.functions
-known c = rw (← c.self.view_is) at c.requires.known
-
-row : (c : goal.After-self-3-1) → c.row_of-row.result.now ≡ function_at c.self.inside.functions c.args.function
-row c = c.row_of-row.ensures ∙ ap (λ (fs : List FunctionRow). function_at fs c.args.function) c.as_slice.ensures
-
-room : (c : goal.After-self-3-1) → c.self.inside.taken + c.row_of-row.result.now.allowance ≤ 1048576
-room c = omega (arith, c.if-allowance-self.false, c.self.invariant.room)
-
-caller : (c : goal.After-self-3-1) → c.top_base-caller.result ≡ top_base (calls_in c.self.inside.flat c.self.inside.calls.items)
-caller c =
-    c.top_base-caller.ensures c.self.inside.flat
-    ∙ ap (λ (active : List Active). top_base (calls_in c.self.inside.flat active)) c.as_slice-2.ensures.value
-
-others : (c : goal.After-self-3-1) → AllHaveLinks c.open_frame.new.flat (calls_in c.self.inside.flat c.self.inside.calls.items)
-others c =
-    links_behind c.self.inside.functions c.self.inside.flat c.open_frame.new.flat (calls_in c.self.inside.flat c.self.inside.calls.items) c.self.inside.end c.self.invariant.rows c.self.invariant.stacked c.self.invariant.next c.open_frame.ensures.below c.self.invariant.linked
-
-calls : (c : goal.After-self-3-1) → calls_in c.open_frame.new.flat c.add_call.new.calls.items ≡ call_of c.args.function c.args.link c.self.inside.end c.self.inside.next ∷ calls_in c.self.inside.flat c.self.inside.calls.items
-calls c =
-    entered_calls c.self.inside.flat c.open_frame.new.flat c.self.inside.calls.items c.add_call.new.calls.items (record { function = c.args.function; base = c.self.inside.end; first = c.self.inside.next }) c.args.link c.add_call.ensures.items c.open_frame.ensures.link (others c)
-
-pub invariant_of-self : goal.invariant_of-self
-invariant_of-self c =
-    let opened : IsOpen c.self.inside.flat c.open_frame.new.flat c.self.inside.calls.items c.add_call.new.calls.items c.self.inside.end c.args.function c.args.link c.self.inside.next =
-    record {
-      stack = c.open_frame.ensures.stack;
-      heap = ap (λ (m : Memory). m.heap) c.open_frame.ensures.memory;
-      link = c.open_frame.ensures.link;
-      caller = c.open_frame.ensures.caller ∙ caller c;
-      others = others c;
-      calls = calls c;
-    } in
-    kept_entered c.self.inside.functions c.self.inside.settings.heap c.self.inside.flat c.open_frame.new.flat c.self.inside.calls c.add_call.new.calls c.self.inside.taken c.self.inside.end c.args.function c.args.link c.self.inside.next c.row_of-row.result.now c.frame_length-length.result (row c) c.frame_length-length.ensures c.self.invariant (known c) (room c) opened (omega (arith, c.add_call.ensures.capacity, c.self.invariant.capacity))
-
-not_full : (c : goal.After-self-3-1) → is_full c.self.inside.functions c.args.function (calls_in c.self.inside.flat c.self.inside.calls.items) ≡ false
-not_full c =
-    le-ltb 1048576 ((function_at c.self.inside.functions c.args.function).allowance + allowances c.self.inside.functions (calls_in c.self.inside.flat c.self.inside.calls.items))
-    (omega (arith, room c, ap (λ (r : FunctionRow). r.allowance) (row c), c.self.invariant.sum))
-
-measured : (c : goal.After-self-3-1) → IsMeasured c.self.inside.functions (calls_in c.self.inside.flat c.self.inside.calls.items) c.args.function c.self.inside.end c.frame_length-length.result c.top_base-caller.result c.from-vars.result
-measured c = record {
-  place = c.self.invariant.next;
-  length = c.frame_length-length.ensures ∙ ap frame_length (row c);
-  caller_base = caller c;
-  objects = c.from-vars.ensures ∙ ap (λ (r : FunctionRow). r.vars) (row c);
-}
-
-pub returns-clause-answer : goal.returns-clause-answer
-returns-clause-answer c =
-    let seen : Space → Loaded = λ space. record { statics = []; pointers = []; functions = c.self.inside.functions; settings = c.self.inside.settings; space = space } in
-    let space : space_in c.open_frame.new.flat c.add_call.new.calls.items (c.self.inside.next + c.from-vars.result) ≡ entered c.self.inside.functions c.args.function c.args.link (space_in c.self.inside.flat c.self.inside.calls.items c.self.inside.next) =
-    entered_space c.self.inside.functions c.self.inside.flat c.open_frame.new.flat c.self.inside.calls.items c.add_call.new.calls.items c.args.function c.args.link c.self.inside.next c.self.inside.end c.frame_length-length.result c.top_base-caller.result c.from-vars.result (c.self.invariant.rows c.args.function (known c)).built (measured c) c.open_frame.ensures.memory (calls c) in
-    rw (← c.self.view_is) (record { room = not_full c; space = ap seen space })
-
-pub returns-clause-links : goal.returns-clause-links
-returns-clause-links c =
-    let before : Space = space_in c.self.inside.flat c.self.inside.calls.items c.self.inside.next in
-    let after : Space = space_in c.open_frame.new.flat c.add_call.new.calls.items c.self.inside.next in
-    rw (← c.self.view_is) (keeps_links before after (others c))
+pub returns-clause-standing : goal.returns-clause-standing
+returns-clause-standing c =
+    let before : Space = (loaded_in c.self.inside.frames c.self.inside.living c.self.inside.settings).space in
+    let is = entered_space c.self.inside.frames c.enter.new.self c.self.inside.living c.enter-2.new.self c.self.inside.settings c.args.function c.args.link c.next.result c.in_ok-base.base c.row.result.now c.in_ok-base.ensures.answer c.next.ensures c.row.ensures c.enter-2.ensures in
+    rw (← c.self.view_is)
+    (subst (λ (s : Space). KeepsStanding before s) (sym is) (c.law_new_objects.ensures.calls c.self.inside.frames.functions c.args.function c.args.link before c.stands.ensures.given_out))

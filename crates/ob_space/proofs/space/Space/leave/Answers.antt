@@ -1,17 +1,41 @@
-use Rattle.ob_code.specs.State.{Space}
-use Rattle.ob_space.specs.Kept.{space_in}
-use Rattle.ob_space.proofs.CallLists.{keeps_links}
-use Rattle.ob_space.proofs.Changing.{left_on_stack}
-use Rattle.ob_space.proofs.StackWrites.{on_stack}
+use Rattle.std.proofs.Common.{◌≡◌, ◌+◌, ◌<◌, ◌≤◌, List, length, refl, arith, ap, sym, subst, ◌∙◌}
+use Rattle.ob_model.specs.Entries.{Known}
+use Rattle.ob_model.specs.Objects.{is_among}
+use Rattle.ob_code.specs.declared.image.FunctionRow.{FunctionRow}
+use Rattle.ob_code.specs.Frames.{function_at, left_call}
+use Rattle.ob_code.specs.State.{Call, Space}
+use Rattle.ob_frames.specs.Framed.{Framed, Leaves, call_of}
+use Rattle.ob_lifetimes.specs.Living.{AreKnown, AreOfRows, Dies}
+use Rattle.ob_standing.specs.Laws.{AreGivenOut, IsGivenOut, KeepsStanding}
+use Rattle.ob_space.specs.Kept.{loaded_in}
+use Rattle.ob_space.specs.Loaded.{Loaded, left}
+use Rattle.ob_space.proofs.Leaving.{DiesAt, head_objects, kept_left, left_keeps, row_left, row_of, view_left}
 use Rattle.ob_space.proofs.space.Space.leave.Goals as goal
 
-pub get-link-requires-clause-inside : goal.get-link-requires-clause-inside
-get-link-requires-clause-inside c =
-    on_stack c.self.inside.flat c.in_ok-call.call.base 8 c.self.invariant.memory
-    (left_on_stack c.self.inside.functions c.self.inside.settings.heap c.self.inside.flat c.self.inside.calls c.pop.new.self.items c.in_ok-call.call c.self.inside.taken c.self.inside.end c.self.invariant c.in_ok-call.ensures.items)
+pub leave-requires-2-clause-known : goal.leave-requires-2-clause-known
+leave-requires-2-clause-known c =
+    let has = head_objects c.in_ok-call.call c.self.inside.frames c.leave.new.self c.self.inside.living c.self.inside.settings c.in_ok-call.ensures.answer c.self.invariant in
+    subst (λ (row : FunctionRow). AreKnown c.in_ok-call.call.base c.in_ok-call.call.first row.locals c.self.inside.living.entries) (sym (row_left c.in_ok-call.call c.self.inside.frames c.leave.new.self c.row-row.result.now c.in_ok-call.ensures.answer c.row-row.ensures)) has.0.known
 
-pub returns-clause-links : goal.returns-clause-links
-returns-clause-links c =
-    let before : Space = space_in c.self.inside.flat c.self.inside.calls.items c.self.inside.next in
-    let after : Space = space_in c.self.inside.flat c.pop.new.self.items c.self.inside.next in
-    rw (← c.self.view_is) (keeps_links before after c.self.invariant.linked)
+dies_here : (c : goal.After-leave-2) → DiesAt c.self.inside.frames (call_of c.in_ok-call.call) c.self.inside.living c.leave-2.new.self
+dies_here c =
+    let row : c.row-row.result.now ≡ row_of c.self.inside.frames (call_of c.in_ok-call.call) =
+    row_left c.in_ok-call.call c.self.inside.frames c.leave.new.self c.row-row.result.now c.in_ok-call.ensures.answer c.row-row.ensures in
+    subst (λ (r : FunctionRow). Dies (is_among c.in_ok-call.call.first r.vars) (length r.locals) c.self.inside.living c.leave-2.new.self) row c.leave-2.ensures
+
+pub invariant_of-self-2 : goal.invariant_of-self-2
+invariant_of-self-2 c =
+    kept_left c.in_ok-call.call c.self.inside.frames c.leave.new.self c.self.inside.living c.leave-2.new.self c.self.inside.settings c.in_ok-call.ensures.answer c.law_framed.ensures c.self.invariant (dies_here c)
+
+pub returns-clause-memory : goal.returns-clause-memory
+returns-clause-memory c =
+    rw (← c.self.view_is)
+    (view_left c.in_ok-call.call c.self.inside.frames c.leave.new.self c.self.inside.living c.leave-2.new.self c.self.inside.settings c.in_ok-call.ensures.answer (dies_here c))
+
+pub returns-clause-standing : goal.returns-clause-standing
+returns-clause-standing c =
+    let old : Loaded = loaded_in c.self.inside.frames c.self.inside.living c.self.inside.settings in
+    let is = view_left c.in_ok-call.call c.self.inside.frames c.leave.new.self c.self.inside.living c.leave-2.new.self c.self.inside.settings c.in_ok-call.ensures.answer (dies_here c) in
+    let law = left_keeps KeepsStanding c.in_ok-call.call c.self.inside.frames c.leave.new.self c.self.inside.living c.self.inside.settings c.in_ok-call.ensures.answer
+    (λ call cs s next entries. c.law_deaths.ensures.returns c.self.inside.frames.functions call cs s (rw (next, entries) c.stands.ensures.given_out)) in
+    rw (← c.self.view_is) (subst (λ (x : Loaded). KeepsStanding old.space x.space) (sym is) law)
