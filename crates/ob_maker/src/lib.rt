@@ -10,6 +10,7 @@ pub use maker::Maker;
 pub use small::Small;
 pub use zero::Zero;
 
+mod boxed;
 mod count;
 mod maker;
 mod small;

@@ -8,6 +8,7 @@ pub use counter::Counter;
 pub use first_events::FirstEvents;
 pub use watcher::Watcher;
 
+mod boxed;
 mod counter;
 mod first_events;
 #[cfg(test)]
