@@ -1,4 +1,5 @@
 pub mod Sent
+pub mod Told
 pub mod Filled
 pub mod Tells
 pub mod Placed
@@ -10,6 +11,7 @@ pub mod Handed
 pub mod Returns
 pub mod Exchanged
 pub mod Stepped
+pub mod Heard
 pub mod Going
 pub mod Gone
 pub mod Finishing

@@ -1,18 +1,32 @@
 -- A machine with an image, and what a run of it gives. The run is that of the flat machine's definition, on lists, for the
 -- machine's image and settings.
-use Rattle.std.specs.Prelude.{◌≡◌, ◌≢◌, ℕ, ◌≤◌, ◌<◌, ◌⊎◌, Bool, true, false, List, [], ◌++◌, length}
+use Rattle.std.specs.Prelude.{◌≡◌, ◌≢◌, ℕ, ◌+◌, ◌≤◌, ◌<◌, ◌==◌, Bool, true, false, List, [], ◌∷◌, ◌++◌, length, Option, Some, None, if◌then◌else◌}
 use Rattle.std.specs.Io.KnownBytes.{append_known}
-use Rattle.ob_model.specs.declared.endings.Ending.{Ending}
-use Rattle.ob_model.specs.declared.endings.Ending.TheVariants.{ReadFault, WriteFault}
-use Rattle.ob_model.specs.declared.settings.RunSettings.{RunSettings}
-use Rattle.ob_model.specs.Endings.{Begins, InputEnd, closed, failed}
-use Rattle.ob_code.specs.declared.image.Image.{Image}
-use Rattle.ob_code.specs.Start.{flat_final, laid_out}
-use Rattle.ob_model.specs.Limits.{stack_bytes}
-use Rattle.ob_code.specs.State.{Final, Space}
+use Rattle.std.specs.List.{Contains}
+use Rattle.std.specs.Option.{option_map}
 use Rattle.ob_base.specs.Devices.{Reading, Writing, IsWhole, IsWritten, IsCutOff}
 use Rattle.ob_base.specs.Sink.{tally_known}
-use Rattle.ob_machine.specs.Devices.{IsInput}
+use Rattle.ob_model.specs.declared.endings.Ending.{Ending}
+use Rattle.ob_model.specs.declared.endings.Ending.TheVariants.{ReadFault, WriteFault, NoMemory}
+use Rattle.ob_model.specs.declared.settings.Mode.TheVariants.{Boundless}
+use Rattle.ob_model.specs.declared.settings.RunSettings.{RunSettings}
+use Rattle.ob_model.specs.declared.strays.Act.TheVariants.{Store}
+use Rattle.ob_model.specs.declared.strays.StrayEvent.{StrayEvent}
+use Rattle.ob_model.specs.declared.values.LoadKind.{LoadKind}
+use Rattle.ob_model.specs.declared.values.Shown.{Shown}
+use Rattle.ob_model.specs.Endings.{Begins, InputEnd, closed, failed}
+use Rattle.ob_model.specs.Limits.{stack_bytes}
+use Rattle.ob_code.specs.declared.image.FunctionRow.{FunctionRow}
+use Rattle.ob_code.specs.declared.image.Image.{Image}
+use Rattle.ob_code.specs.declared.image.NameRow.{NameRow}
+use Rattle.ob_code.specs.Frames.{function_at}
+use Rattle.ob_code.specs.Kinds.{load_kind_of}
+use Rattle.ob_code.specs.Shown.{shown_word, static_word, variable_word}
+use Rattle.ob_code.specs.Start.{flat_final, laid_out}
+use Rattle.ob_code.specs.State.{Call, Final, Space}
+use Rattle.ob_watch.specs.Watching.{Watch}
+use Rattle.ob_telling.specs.Telling.{watches_after}
+use Rattle.ob_machine.specs.Devices.{IsInput, IsPartlySent}
 
 -- its image and settings, what its memory holds, whether nothing was run since it was loaded or reset, and how many
 -- instructions its last run did
