@@ -8,6 +8,7 @@ pub mod Flushed
 pub mod Reached
 pub mod Words
 pub mod Handed
+pub mod ShownRows
 pub mod Returns
 pub mod Exchanged
 pub mod Stepped

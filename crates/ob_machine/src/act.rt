@@ -229,7 +229,7 @@ impl Execution {
                 None
             }
             Instr::Difference { a, b, c, imm } => {
-                self.difference(a, b, c, imm.unsigned_abs());
+                self.difference(a, b, c, natural(imm));
                 None
             }
             Instr::GetChar { a } => return Effect::Reads { a },

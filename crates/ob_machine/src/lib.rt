@@ -27,4 +27,5 @@ mod memory;
 mod pointers;
 mod ports;
 mod runs;
+mod shown;
 mod steps;

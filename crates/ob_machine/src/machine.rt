@@ -4,21 +4,23 @@ ghost use Rattle.ob_model.specs.declared.endings.Ending.TheVariants as ending;
 ghost use Rattle.ob_model.specs.declared.settings.Mode.TheVariants.{Boundless};
 ghost use Rattle.ob_model.specs.Settings.{IsFit};
 ghost use Rattle.ob_code.specs.Frames.{function_at};
-ghost use Rattle.ob_code.specs.Rules.{IsVerified};
+ghost use Rattle.ob_code.specs.Rules.{IsVerified, name_at};
+ghost use Rattle.ob_code.specs.Shown.{top_number};
 ghost use Rattle.ob_code.specs.Start.{most_instructions};
 ghost use Rattle.ob_code.specs.declared.image.FunctionRow.{FunctionRow};
 ghost use Rattle.std.specs.Prelude.{ℕ};
 ghost use Rattle.ob_space.specs.Loaded.{loaded as laid_out_for};
 ghost use Rattle.ob_machine.specs.Buffers.{nothing_read};
 ghost use Rattle.ob_machine.specs.Effects.{HasRoom};
-ghost use Rattle.ob_machine.specs.Machines.{Flushes, Runs, loaded};
+ghost use Rattle.ob_machine.specs.Machines.{Flushes, Runs, loaded, shown_row};
 
 use crate::execution::Execution;
 use crate::ports::Ports;
+use crate::shown::shown_by;
 use ob_base::{NoMemory, Sink, Source};
 use ob_code::{FunctionRow, Image, Verified};
 use ob_maker::Maker;
-use ob_model::{Ending, RunSettings};
+use ob_model::{Ending, RunSettings, Shown};
 use ob_space::Space;
 use ob_watch::Watcher;
 use std::alloc::Global;
@@ -98,6 +100,24 @@ impl Machine {
         ensures { result.now ≡ self.now.image }
     {
         self.image.image()
+    }
+
+    /// The number of the innermost call's function, from 0; `None` exactly where no call is in progress.
+    pub fn function(&self) -> Option<u32>
+        ensures { result ≡ top_number self.now.space.calls }
+    {
+        self.execution.space.function()
+    }
+
+    /// What the variable of a row of the image's names holds, rows counted from 0: a static object, or a
+    /// variable of the innermost call. `None` exactly where the variable is one of another function, or of
+    /// none that is in progress, and where it is an array or a structure. Tells no event, and takes no
+    /// manufactured value.
+    pub fn shown(&self, row: u32) -> Option<Shown>
+        requires { row < length self.now.image.names }
+        ensures { result ≡ shown_row self.now.image self.now.space (name_at self.now.image.names row) }
+    {
+        shown_by(self.image.image(), &self.execution.space, row)
     }
 
     /// Whether nothing was run since the machine was loaded or reset. A fresh machine is as `load` gave

@@ -103,7 +103,7 @@ impl Execution {
     }
 
     /// Sets a word to how many elements lie between the pointers in two words.
-    pub(crate) fn difference(&mut self, a: u32, b: u32, c: u32, size: u64)
+    pub(crate) fn difference(&mut self, a: u32, b: u32, c: u32, size: u32)
         requires written { IsWritten (top_words self.old.space) a }
         requires left { b < top_words self.old.space }
         requires right { c < top_words self.old.space }
@@ -114,7 +114,7 @@ impl Execution {
     {
         let left = self.word(b);
         let right = self.word(c);
-        let count = self.space.difference(left, right, size);
+        let count = self.space.difference(left, right, u64::from(size));
         self.set_word(a, word(count as i128));
     }
 }

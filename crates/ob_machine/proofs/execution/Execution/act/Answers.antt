@@ -1,12 +1,16 @@
-use Rattle.std.proofs.Common.{◌≤◌, ◌^◌, Some, rules, w64, sym, ap, ◌∙◌, subst, arith}
+use Rattle.std.proofs.Common.{◌≤◌, ◌<◌, ◌^◌, Some, rules, w64, sym, ap, ◌∙◌, subst, arith}
 use Rattle.std.specs.Prelude.{FitsSigned, unsigned_abs, ◌+ℤ◌, ◌*ℤ◌}
 use Rattle.std.proofs.lemmas.Int.{ints, to_z-of_z}
 use borrow.Author.Differences.{abs_is}
 use Rattle.ob_words.specs.Words.{word}
 use Rattle.ob_words.specs.declared.types.IntType.TheVariants.{Long}
-use Rattle.ob_code.specs.Machine.{act_on, at_zero, calling, get, get_number, jump, on, set_word, slide, ticked}
+use Rattle.ob_model.specs.Pointers.{difference}
+use Rattle.ob_code.specs.Layout.{local_base, static_base, wiped}
+use Rattle.ob_code.specs.Machine.{act_on, at_zero, calling, get, get_number, jump, on, pointer_in, set_word, slide, ticked}
 use Rattle.ob_code.specs.State.{goes}
 use Rattle.ob_machine.specs.Executions.{Is, setup, state_of}
+use Rattle.ob_machine.proofs.Placed.{below}
+use Rattle.ob_machine.proofs.ShownRows.{few_top_locals}
 use Rattle.ob_machine.proofs.Words.{wide_is}
 use Rattle.ob_machine.proofs.execution.Execution.act.Goals as goal
 
@@ -72,3 +76,79 @@ returns-in-SlideBy-clause-effect c =
     (ap (λ z. slide (get_number Long (state_of c.args.self.now r) c.in-SlideBy.b +ℤ z) c.in-SlideBy.a (state_of c.args.self.now r)) (to_z-of_z w64 c.in-SlideBy.imm fits)
     ∙ sym (ap (λ o. act_on (setup c.args.image.now c.args.self.now.space.settings cycle input_end) o (state_of c.args.self.now r)) (c.fetch.ensures.is ∙ ap Some c.in-SlideBy.is)))
     (c.slide_by_offset.ensures.state r)
+
+pub natural-requires-in-Local : goal.natural-requires-in-Local
+natural-requires-in-Local c =
+    let image = c.args.image.now in
+    let fits : FitsSigned w64 c.in-Local.imm = search rules in
+    let few = few_top_locals image c.args.self.now.space.space.calls c.args.self.now.counter c.requires.verified c.requires.ready.placed.innermost in
+    let under = below _ c.in-Local.imm c.in-Local.ensures.operands.1 in
+    subst (λ z. unsigned_abs z < 4294967296) (sym (to_z-of_z w64 c.in-Local.imm fits)) (omega (arith, few, under))
+
+pub natural-requires-in-Wipe : goal.natural-requires-in-Wipe
+natural-requires-in-Wipe c =
+    let image = c.args.image.now in
+    let fits : FitsSigned w64 c.in-Wipe.imm = search rules in
+    let few = few_top_locals image c.args.self.now.space.space.calls c.args.self.now.counter c.requires.verified c.requires.ready.placed.innermost in
+    let under = below _ c.in-Wipe.imm c.in-Wipe.ensures.operands in
+    subst (λ z. unsigned_abs z < 4294967296) (sym (to_z-of_z w64 c.in-Wipe.imm fits)) (omega (arith, few, under))
+
+pub returns-in-Static-clause-effect : goal.returns-in-Static-clause-effect
+returns-in-Static-clause-effect c =
+    let fits : FitsSigned w64 c.in-Static.imm = search rules in
+    let number = c.natural.ensures ∙ ap unsigned_abs (to_z-of_z w64 c.in-Static.imm fits) in
+    λ cycle input_end r. ap (λ o. act_on (setup c.args.image.now c.args.self.now.space.settings cycle input_end) o (state_of c.args.self.now r)) (c.fetch.ensures.is ∙ ap Some c.in-Static.is)
+    ∙ (λ i. set_word (state_of c.args.self.now r) c.in-Static.a (static_base (sym c.requires.ready.statics i) (sym number i)))
+    ∙ c.take_static.ensures.state r
+
+pub returns-in-Local-clause-effect : goal.returns-in-Local-clause-effect
+returns-in-Local-clause-effect c =
+    let fits : FitsSigned w64 c.in-Local.imm = search rules in
+    let row = c.natural-in-Local.ensures ∙ ap unsigned_abs (to_z-of_z w64 c.in-Local.imm fits) in
+    λ cycle input_end r. ap (λ o. act_on (setup c.args.image.now c.args.self.now.space.settings cycle input_end) o (state_of c.args.self.now r)) (c.fetch.ensures.is ∙ ap Some c.in-Local.is)
+    ∙ (λ i. set_word (state_of c.args.self.now r) c.in-Local.a (local_base (sym c.requires.ready.rows i) c.args.self.now.space.space (sym row i)))
+    ∙ c.take_local.ensures.state r
+
+pub returns-in-Wipe-clause-effect : goal.returns-in-Wipe-clause-effect
+returns-in-Wipe-clause-effect c =
+    let fits : FitsSigned w64 c.in-Wipe.imm = search rules in
+    let row = c.natural-in-Wipe.ensures ∙ ap unsigned_abs (to_z-of_z w64 c.in-Wipe.imm fits) in
+    λ cycle input_end r. ap (λ o. act_on (setup c.args.image.now c.args.self.now.space.settings cycle input_end) o (state_of c.args.self.now r)) (c.fetch.ensures.is ∙ ap Some c.in-Wipe.is)
+    ∙ (λ i. goes (on (record (state_of c.args.self.now r) { space = wiped (sym c.requires.ready.rows i) (sym row i) c.args.self.now.space.space })))
+    ∙ ap goes (c.wipe.ensures.state r)
+
+pub returns-in-Same-clause-effect : goal.returns-in-Same-clause-effect
+returns-in-Same-clause-effect c =
+    λ cycle input_end r. ap (λ o. act_on (setup c.args.image.now c.args.self.now.space.settings cycle input_end) o (state_of c.args.self.now r)) (c.fetch.ensures.is ∙ ap Some c.in-Same.is)
+    ∙ c.same.ensures.state r
+
+pub returns-in-Order-clause-effect : goal.returns-in-Order-clause-effect
+returns-in-Order-clause-effect c =
+    λ cycle input_end r. ap (λ o. act_on (setup c.args.image.now c.args.self.now.space.settings cycle input_end) o (state_of c.args.self.now r)) (c.fetch.ensures.is ∙ ap Some c.in-Order.is)
+    ∙ c.order.ensures.state r
+
+pub returns-in-Difference-clause-effect : goal.returns-in-Difference-clause-effect
+returns-in-Difference-clause-effect c =
+    let fits : FitsSigned w64 c.in-Difference.imm = search rules in
+    let size = c.natural-in-Difference.ensures ∙ ap unsigned_abs (to_z-of_z w64 c.in-Difference.imm fits) in
+    λ cycle input_end r. ap (λ o. act_on (setup c.args.image.now c.args.self.now.space.settings cycle input_end) o (state_of c.args.self.now r)) (c.fetch.ensures.is ∙ ap Some c.in-Difference.is)
+    ∙ (λ i. set_word (state_of c.args.self.now r) c.in-Difference.a (word (difference (sym size i) (pointer_in (state_of c.args.self.now r) c.in-Difference.b) (pointer_in (state_of c.args.self.now r) c.in-Difference.c))))
+    ∙ c.difference.ensures.state r
+
+pub returns-in-Malloc-clause-effect : goal.returns-in-Malloc-clause-effect
+returns-in-Malloc-clause-effect c =
+    λ cycle input_end r. subst (λ x. Is c.malloc.result x c.malloc.new.self r)
+    (sym (ap (λ o. act_on (setup c.args.image.now c.args.self.now.space.settings cycle input_end) o (state_of c.args.self.now r)) (c.fetch.ensures.is ∙ ap Some c.in-Malloc.is)))
+    (c.malloc.ensures.state r)
+
+pub returns-in-Calloc-clause-effect : goal.returns-in-Calloc-clause-effect
+returns-in-Calloc-clause-effect c =
+    λ cycle input_end r. subst (λ x. Is c.calloc.result x c.calloc.new.self r)
+    (sym (ap (λ o. act_on (setup c.args.image.now c.args.self.now.space.settings cycle input_end) o (state_of c.args.self.now r)) (c.fetch.ensures.is ∙ ap Some c.in-Calloc.is)))
+    (c.calloc.ensures.state r)
+
+pub returns-in-Exit-clause-effect : goal.returns-in-Exit-clause-effect
+returns-in-Exit-clause-effect c =
+    λ cycle input_end r. subst (λ x. Is c.exit.result x c.exit.new.self r)
+    (sym (ap (λ o. act_on (setup c.args.image.now c.args.self.now.space.settings cycle input_end) o (state_of c.args.self.now r)) (c.fetch.ensures.is ∙ ap Some c.in-Exit.is)))
+    (c.exit.ensures.state r)
