@@ -55,7 +55,7 @@ put_after run e d d' d'' read written written' l s =
     }
 
 -- bytes were read, and all that was put before had been sent
-pub read_last : (run : InputEnd → State → Final) (does : InputEnd → State → Next) (e f : Execution) (d d' d'' : Devices) (read written read' written' : List ℕ) → SentOrPending d.taken d'.taken d.tally d'.tally d'.pending (d.pending ++ written) → read' ≢ [] → NeedsRead does f d' d'' read' written' → ((b : Beside) → EndsAtRead (run failed (reading e (d.unread.bytes ++ read) b)) (b.output ++ written)) → LastRead run e d d'' (read ++ read') (written ++ written')
+pub read_last : (run : InputEnd → State → Final) (does : InputEnd → State → Next) (e f : Execution) (d d' d'' : Devices) (read written read' written' : List ℕ) → SentOrPending d.taken d'.taken d.tally d'.tally d'.pending (d.pending ++ written) → read' ≢ [] → NeedsRead does f d' d'' read' written' → ((b : Beside) → EndsAtRead (run failed (reading e d.hears.place (d.unread.bytes ++ read) b)) (b.output ++ written)) → LastRead run e d d'' (read ++ read') (written ++ written')
 read_last run does e f d d' d'' read written read' written' s some n fails =
     let took : append_known d'.taken d'.pending ≡ append_known d.taken (d.pending ++ written) =
     ap (λ t. append_known t d'.pending) s.took ∙ append_known-then d.taken s.sent d'.pending ∙ ap (append_known d.taken) s.rest in
@@ -98,7 +98,7 @@ cut_last run e d d' taken tally read written l p =
     }
 
 -- a run that goes as another one
-module _ (run told : InputEnd → State → Final) (e f : Execution) (d : Devices) (is : (input : List ℕ) (b : Beside) → told failed (reading e input b) ≡ run failed (reading f input b)) where
+module _ (run told : InputEnd → State → Final) (e f : Execution) (d : Devices) (is : (input : List ℕ) (b : Beside) → told failed (reading e d.hears.place input b) ≡ run failed (reading f d.hears.place input b)) where
   needs_as : (before sent : List ℕ) → NeedsLast run f d before sent → NeedsLast told e d before sent
   needs_as before sent n =
       record { out = n.out; begins = n.begins; fails = λ b. subst (λ x. EndsAtRead x (b.output ++ n.out)) (sym (is (d.unread.bytes ++ before) b)) (n.fails b) }

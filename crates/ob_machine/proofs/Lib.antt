@@ -1,4 +1,5 @@
 pub mod Sent
+pub mod Told
 pub mod Filled
 pub mod Tells
 pub mod Placed
@@ -7,9 +8,11 @@ pub mod Flushed
 pub mod Reached
 pub mod Words
 pub mod Handed
+pub mod ShownRows
 pub mod Returns
 pub mod Exchanged
 pub mod Stepped
+pub mod Heard
 pub mod Going
 pub mod Gone
 pub mod Finishing

@@ -138,7 +138,7 @@ set_or_made : (image : Image) (s : State) (r : Option ℕ) (u : Setup) (kind : L
 set_or_made image s None u kind a t f = f _ _
 set_or_made image s (Some w) u kind a t f = f t.cycle_place w
 
-allocated_calls : (place : Option ℕ) (n : ℕ) (s : Space) → (allocated_at place n s).calls ≡ s.calls
+pub allocated_calls : (place : Option ℕ) (n : ℕ) (s : Space) → (allocated_at place n s).calls ≡ s.calls
 allocated_calls None n s = refl
 allocated_calls (Some place) n s = refl
 
@@ -146,7 +146,7 @@ allocated_next : (place : Option ℕ) (n : ℕ) (s : Space) → (allocated_at pl
 allocated_next None n s = omega arith
 allocated_next (Some place) n s = omega arith
 
-below : (count : ℕ) (imm : ℤ) → IsBelow count imm → unsigned_abs imm < count
+pub below : (count : ℕ) (imm : ℤ) → IsBelow count imm → unsigned_abs imm < count
 below count (pos n) h = h
 below count (negsuc n) h = absurd h
 
@@ -175,7 +175,7 @@ target_place image [] at imm here place = here
 target_place image (c ∷ cs) at imm here place = jump_place image c.function imm here.is_function (place c.function here)
 
 -- moving a pointer changes neither the calls nor the next number
-abbrev KeepsCalls : Space → pointers.Shifted → Type 0
+abbrev pub KeepsCalls : Space → pointers.Shifted → Type 0
 KeepsCalls s (pointers.shifted w t) = (t.calls ≡ s.calls) × (t.next ≡ s.next)
 KeepsCalls s pointers.too_far = Unit {0}
 KeepsCalls s pointers.no_slot = Unit {0}
@@ -194,7 +194,7 @@ placed_keeps away base moves.too_far s = tt
 placed_keeps away base (moves.in_bounds object offset) s = (refl, refl)
 placed_keeps away base (moves.out_of_bounds object offset) s = slot_keeps (slot_of s.slots (object, offset)) away (object, offset) s
 
-shift_keeps : (away : ℕ) (s : Space) (w : ℕ) (d : ℤ) → KeepsCalls s (pointers.shift away s w d)
+pub shift_keeps : (away : ℕ) (s : Space) (w : ℕ) (d : ℤ) → KeepsCalls s (pointers.shift away s w d)
 shift_keeps away s w d =
     let t = pointers.resolve s w in
     either_shifted s (is_far d) pointers.too_far _ tt (placed_keeps away (pointers.base_of t) (moves.moved_by (pointers.size_of t) (pointers.pointer_of t) d) s)
@@ -208,17 +208,17 @@ told_steps : (e : Option StrayEvent) (s : State) → (machine.told e s).steps �
 told_steps None s = refl
 told_steps (Some e) s = refl
 
-abbrev SameCalls : Space → Space → Type 0
+abbrev pub SameCalls : Space → Space → Type 0
 SameCalls s t = (t.calls ≡ s.calls) × (t.next ≡ s.next)
 
-load_keeps : (x : Access) (s : Space) → SameCalls s (space_after_load x s)
+pub load_keeps : (x : Access) (s : Space) → SameCalls s (space_after_load x s)
 load_keeps too_far s = (refl, refl)
 load_keeps (direct address) s = (refl, refl)
 load_keeps (own object offset address) s = (refl, refl)
 load_keeps (outside object offset) s = (refl, refl)
 load_keeps (vanishing object offset) s = (refl, refl)
 
-store_keeps : (x : Access) (cap : ℕ) (kind : LoadKind) (w : ℕ) (s : Space) → SameCalls s (space_after_store x cap kind w s)
+pub store_keeps : (x : Access) (cap : ℕ) (kind : LoadKind) (w : ℕ) (s : Space) → SameCalls s (space_after_store x cap kind w s)
 store_keeps too_far cap kind w s = (refl, refl)
 store_keeps (direct address) cap kind w s = (refl, refl)
 store_keeps (own object offset address) cap kind w s = (refl, refl)
@@ -229,7 +229,7 @@ once_freed_keeps : (profile : Profile) (object : ℕ) (s : Space) → SameCalls 
 once_freed_keeps profiles.One object s = (refl, refl)
 once_freed_keeps profiles.Two object s = (refl, refl)
 
-free_keeps : (profile : Profile) (x : Freeing) (s : Space) → SameCalls s (space_after_free profile x s)
+pub free_keeps : (profile : Profile) (x : Freeing) (s : Space) → SameCalls s (space_after_free profile x s)
 free_keeps profile no_effect s = (refl, refl)
 free_keeps profile (freed object) s = once_freed_keeps profile object s
 free_keeps profile (stray object offset) s = (refl, refl)

@@ -9,15 +9,17 @@ use Rattle.ob_code.specs.declared.image.StaticRow.{StaticRow}
 use Rattle.ob_code.specs.declared.instructions.Instr.TheVariants.{Tick}
 use Rattle.ob_code.specs.Machine as machine
 use Rattle.ob_code.specs.Machine.{counted, entering, step}
-use Rattle.ob_code.specs.Rules.{IsVerified, instruction_at}
+use Rattle.ob_code.specs.declared.instructions.Instr.{Instr}
+use Rattle.ob_code.specs.Rules.{AreOperandsSound, IsVerified, instruction_at}
 use Rattle.ob_code.specs.Start.{fresh, laid_out, started, with_statics}
 use Rattle.ob_model.specs.Limits.{stack_bytes}
 use Rattle.ob_code.specs.State.{Call, Setup, Space, State, goes}
+use Rattle.ob_machine.specs.Executions.{top_number}
 use Rattle.ob_machine.specs.Progress.{AreLinked, IsInnermost, IsLink, IsPlaced, Leads, Reaches}
 use Rattle.ob_machine.proofs.Placed as placed
 use Rattle.ob_machine.proofs.Placed.{Goes, Stays, act_on, in_code, numbers}
 
-innermost_in_code : (image : Image) (calls : List Call) (at : ℕ) → IsVerified image → IsInnermost image calls at → at < length image.code
+pub innermost_in_code : (image : Image) (calls : List Call) (at : ℕ) → IsVerified image → IsInnermost image calls at → at < length image.code
 innermost_in_code image [] at v here = absurd here
 innermost_in_code image (c ∷ cs) at v here = in_code image c.function at v here
 
@@ -65,3 +67,8 @@ pub reaches_placed : (u : Setup) (place : ℕ) (input : List ℕ) (steps n : ℕ
 reaches_placed u place input steps n t v r =
     let space = laid_out stack_bytes u.image.statics u.image.pointers u.settings in
     leads_placed u n r.first t v (start_placed u.image (fresh space place input steps) r.first v (no_calls u.image.statics u.image.pointers u.settings) r.starts).placed r.leads
+
+-- what the innermost call's function asks of the next instruction
+pub sound_there : (image : Image) (calls : List Call) (at : ℕ) (i : Instr) → IsVerified image → IsInnermost image calls at → slice_get image.code at ≡ Some i → AreOperandsSound image (top_number calls) i
+sound_there image [] at i v here is = absurd here
+sound_there image (c ∷ cs) at i v here is = placed.sound image (c ∷ cs) at i v here is

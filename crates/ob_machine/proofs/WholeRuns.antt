@@ -10,26 +10,27 @@ use Rattle.ob_machine.specs.Progress.{Leads, Reaches}
 use Rattle.ob_machine.proofs.Tells as tells
 use Rattle.ob_machine.proofs.Tells.{CanEnd, IsAfter, Tells, act_on, quiet}
 
-pub begins_then : (xs ys zs : List ℕ) → Begins xs ys → Begins ys zs → Begins xs zs
+pub begins_then : {A : Type 0} → (xs ys zs : List A) → Begins xs ys → Begins ys zs → Begins xs zs
 begins_then xs ys zs p q = (p.0 ++ q.0, q.1 ∙ ap (λ l. l ++ q.0) p.1 ∙ append_assoc xs p.0 q.0)
 
 -- where a run from a state comes to
 pub record Follows (u : Setup) (s : State) (f : Final) : Type 0 where
   pub output : Begins s.output f.state.output
+  pub events : Begins s.events f.state.events
   pub instructions : s.instructions ≤ f.state.instructions
   pub ending : (f.ending ≡ Spent) ⊎ CanEnd u.input_end f.ending
 
 -- after an instruction, or after starting
 after_follows : (u : Setup) (s : State) (x : Next) (k : State → Final) → Tells u.input_end s x → ((t : State) → Follows u t (k t)) → Follows u s (after x k)
 after_follows u s (goes t) k h f =
-    record { output = begins_then s.output t.output (k t).state.output h.output (f t).output; instructions = omega (arith, h.instructions, (f t).instructions); ending = (f t).ending }
-after_follows u s (stops e t) k h f = record { output = h.1.output; instructions = omega (arith, h.1.instructions); ending = inr h.0 }
+    record { output = begins_then s.output t.output (k t).state.output h.output (f t).output; events = begins_then s.events t.events (k t).state.events h.events (f t).events; instructions = omega (arith, h.instructions, (f t).instructions); ending = (f t).ending }
+after_follows u s (stops e t) k h f = record { output = h.1.output; events = h.1.events; instructions = omega (arith, h.1.instructions); ending = inr h.0 }
 
 pub runs_follow : (u : Setup) (n : ℕ) (s : State) → Follows u s (runs u n s)
-runs_follow u zero s = record { output = ([], sym (append-nil s.output)); instructions = omega arith; ending = inl refl }
+runs_follow u zero s = record { output = ([], sym (append-nil s.output)); events = ([], sym (append-nil s.events)); instructions = omega arith; ending = inl refl }
 runs_follow u (suc n) s =
     let f = after_follows u (counted s) (step u s) (runs u n) (act_on u (slice_get u.image.code s.counter) (counted s)) (runs_follow u n) in
-    record { output = f.output; instructions = omega (arith, f.instructions); ending = f.ending }
+    record { output = f.output; events = f.events; instructions = omega (arith, f.instructions); ending = f.ending }
 
 -- a run of at least one instruction counts it
 pub runs_count : (u : Setup) (n : ℕ) (s : State) → s.instructions + 1 ≤ (runs u (suc n) s).state.instructions
@@ -39,7 +40,7 @@ runs_count u n s = (after_follows u (counted s) (step u s) (runs u n) (act_on u 
 starts : (u : Setup) (s : State) → Tells u.input_end s (started u.image s)
 starts u s =
     tells.ticked u.input_end s.steps s (λ t. entering u.image u.image.main (length u.image.code) [] t)
-    (λ n. tells.entering u.input_end s u.image u.image.main (length u.image.code) [] (record s { steps = n }) (quiet s _ refl refl))
+    (λ n. tells.entering u.input_end s u.image u.image.main (length u.image.code) [] (record s { steps = n }) (quiet s _ refl refl refl))
 
 pub run_follows : (u : Setup) (space : Space) (place : ℕ) (input : List ℕ) (steps : ℕ) → Follows u (fresh space place input steps) (run_from u space place input steps)
 run_follows u space place input steps =

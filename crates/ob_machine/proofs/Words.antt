@@ -9,7 +9,10 @@ use borrow.Author.Differences.{abs_is}
 use Rattle.ob_words.specs.declared.types.DivideByZero.{DivideByZero}
 use Rattle.ob_words.specs.declared.types.IntType.TheVariants.{Long}
 use Rattle.ob_words.specs.Types.{IsNumber}
+use Rattle.ob_words.specs.Conversion.{convert}
 use Rattle.ob_words.specs.Words.{word}
+use Rattle.ob_words.proofs.Congruence.{residue_same}
+use Rattle.ob_words.proofs.Conversions.{convert_congruent}
 use Rattle.ob_model.specs.declared.endings.Ending.TheVariants as ending
 use Rattle.ob_model.specs.Accesses.{is_far}
 use Rattle.ob_code.specs.Machine.{flag, set_result, set_word, slide}
@@ -61,3 +64,7 @@ scaled_is start size count fits_start fits_size fits_count s small n =
     (λ i. to_z w128 (of_z w128 (start_is i +ℤ to_z w128 (of_z w128 (size_is i *ℤ count_is i)))))
     ∙ ap (λ z. to_z w128 (of_z w128 (start +ℤ z))) product_is
     ∙ sum_is
+
+-- the word of a number is that of the `long` that it is converted to
+pub word_of_long : (n z : ℤ) → z ≡ convert Long n → word z ≡ word n
+word_of_long n z is = ap word is ∙ residue_same (2 ^ 64) (convert Long n) n (omega arith) (convert_congruent Long n)

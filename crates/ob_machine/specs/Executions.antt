@@ -1,5 +1,5 @@
 -- A run in progress as the program keeps it, and the state of the definition's that it stands for.
-use Rattle.std.specs.Prelude.{◌≡◌, ℕ, ◌-◌, ◌%◌, ◌^◌, ℤ, List, [], ◌∷◌, Option, Some, None, Result, Ok, Err, if◌then◌else◌}
+use Rattle.std.specs.Prelude.{◌≡◌, ℕ, ◌-◌, ◌%◌, ◌^◌, ℤ, List, [], ◌∷◌, Option, Some, None, Result, Ok, Err, slice_get, if◌then◌else◌}
 use Rattle.ob_words.specs.declared.types.DivideByZero.{DivideByZero}
 use Rattle.ob_words.specs.Words.{word}
 use Rattle.ob_model.specs.Accesses.{is_far}
@@ -8,6 +8,7 @@ use Rattle.ob_model.specs.declared.settings.RunSettings.{RunSettings}
 use Rattle.ob_model.specs.declared.strays.StrayEvent.{StrayEvent}
 use Rattle.ob_model.specs.Endings.{InputEnd}
 use Rattle.ob_code.specs.declared.image.Image.{Image}
+use Rattle.ob_code.specs.Machine.{act_on}
 use Rattle.ob_code.specs.State.{Call, Next, Setup, State, goes, stops}
 use Rattle.ob_space.specs.Loaded.{Loaded}
 use Rattle.ob_machine.specs.declared.execution.Execution.{Execution}
@@ -40,6 +41,10 @@ pub record SameRows (s t : Loaded) : Type 0 where
 abbrev pub setup : Image → RunSettings → List ℕ → InputEnd → Setup
 setup image settings cycle input_end =
     record { image = image; settings = settings; cycle = cycle; input_end = input_end }
+
+-- what the next instruction of an image does, on an input that ends so
+abbrev pub does : Image → RunSettings → List ℕ → InputEnd → State → Next
+does image settings cycle input_end s = act_on (setup image settings cycle input_end) (slice_get image.code s.counter) s
 
 -- the number of the innermost call's function
 abbrev pub top_number : List Call → ℕ

@@ -4,6 +4,7 @@ pub mod Machines
 pub mod Progress
 pub mod Laws
 pub mod Executions
+pub mod Hearing
 pub mod Effects
 pub mod Exchanges
 pub mod Wiring

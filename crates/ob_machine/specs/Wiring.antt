@@ -5,7 +5,6 @@ use Rattle.ob_model.specs.Settings.{IsFit}
 use Rattle.ob_code.specs.declared.image.Image.{Image}
 use Rattle.ob_code.specs.Rules.{IsVerified}
 use Rattle.ob_space.specs.Loaded.{loaded}
-use Rattle.ob_space.specs.Unbuilt.{IsBuilt}
 use Rattle.ob_machine.specs.declared.execution.Execution.{Execution}
 use Rattle.ob_machine.specs.declared.ports.Ports.{Ports}
 use Rattle.ob_machine.specs.Buffers.{nothing_read}
@@ -19,10 +18,9 @@ pub record IsUnused (image : Image) (e : Execution) (p : Ports) : Type 0 where
   pub input : p.input ≡ nothing_read
   pub output : p.output ≡ []
 
--- the memory was laid out for the image, which is verified and one that the machine runs, under fit settings, and there is room for the arguments of calls
+-- the memory was laid out for the image, which is verified, under fit settings, and there is room for the arguments of calls
 pub record IsWired (image : Image) (e : Execution) (p : Ports) (fresh : Bool) : Type 0 where
   pub verified : IsVerified image
-  pub built : IsBuilt image
   pub statics : e.space.statics ≡ image.statics
   pub pointers : e.space.pointers ≡ image.pointers
   pub functions : e.space.functions ≡ image.functions

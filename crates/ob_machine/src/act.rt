@@ -2,40 +2,62 @@ ghost use Rattle.std.specs.Prelude.{◌≡◌, ◌+◌, ◌≤◌, ◌<◌, ◌^
 ghost use Rattle.ob_words.specs.declared.types.IntType.TheVariants.{Int};
 ghost use Rattle.ob_words.specs.Words.{number};
 ghost use Rattle.ob_model.specs.declared.endings.Ending.TheVariants.{Ended};
-ghost use Rattle.ob_code.specs.Frames.{function_at};
+ghost use Rattle.ob_code.specs.Frames.{function_at, top_function};
 ghost use Rattle.ob_code.specs.Machine.{calling, get, on, ticked};
 ghost use Rattle.ob_code.specs.Rules.{AreOperandsSound, IsVerified, words_of};
-ghost use Rattle.ob_space.specs.Unbuilt.{IsBuilt, IsInstructionBuilt};
 ghost use Rattle.ob_code.specs.State.{goes, stops};
 ghost use Rattle.ob_space.specs.Loaded.{top_words};
 ghost use Rattle.ob_machine.specs.Effects.{HasEffect, HasRoom, IsReady};
 ghost use Rattle.ob_machine.specs.Executions.{Beside, Is, SameRows, state_of, top_number};
 
-use crate::arithmetic::int_of;
+use crate::arithmetic::{int_of, natural};
 use crate::execution::Execution;
 use ob_code::{Image, Instr};
-use ob_model::Ending;
+use ob_model::{Ending, LoadKind};
 use ob_words::word;
 
 /// What came of an instruction: it was done, and ended the run or not; or it needs a device, to read a
-/// byte into word `a`, or to write word `b` and put the byte into word `a`.
+/// byte into word `a`, or to write word `b` and put the byte into word `a`; or it needs a maker or watchers,
+/// for an access through word `b`, displaced by word `c`, or to free what word `b` points to.
 #[derive(Clone, Copy, Debug)]
 pub(crate) enum Effect {
     Done(Option<Ending>),
-    Reads { a: u32 },
-    Writes { a: u32, b: u32 },
+    Reads {
+        a: u32,
+    },
+    Writes {
+        a: u32,
+        b: u32,
+    },
+    Loads {
+        kind: LoadKind,
+        line: u32,
+        a: u32,
+        b: u32,
+        c: u32,
+    },
+    Stores {
+        kind: LoadKind,
+        line: u32,
+        a: u32,
+        b: u32,
+        c: u32,
+    },
+    Frees {
+        line: u32,
+        b: u32,
+    },
 }
 
 impl Execution {
     /// The next instruction.
     fn fetch(&self, image: &Image) -> Instr
         requires verified { IsVerified image.now }
-        requires built { IsBuilt image.now }
         requires ready { IsReady image.now self.now }
         ensures is { slice_get image.now.code self.now.counter ≡ Some result }
         ensures operands { AreOperandsSound image.now (top_number self.now.space.space.calls) result }
         ensures words { words_of image.now (top_number self.now.space.space.calls) ≡ top_words self.now.space }
-        ensures built { IsInstructionBuilt result }
+        ensures function { function_at image.now.functions (top_number self.now.space.space.calls) ≡ top_function self.now.space.functions self.now.space.space.calls }
         ensures few { top_words self.now.space < 2 ^ 31 }
         ensures counter { self.now.counter < 2 ^ 31 }
     {
@@ -98,7 +120,6 @@ impl Execution {
     /// Does the next instruction, unless it needs a device. It takes no memory.
     pub(crate) fn act(&mut self, image: &Image, arguments: &mut Vec<u64>) -> Effect
         requires verified { IsVerified image.now }
-        requires built { IsBuilt image.now }
         requires ready { IsReady image.now self.old }
         requires room { HasRoom image.now (vec_capacity arguments.old) }
         ensures effect { HasEffect image.now self.old self.new result }
@@ -154,23 +175,69 @@ impl Execution {
                 let w = self.word(b);
                 self.give_back(image, w)
             }
+            Instr::Static { a, imm } => {
+                self.take_static(a, natural(imm));
+                None
+            }
+            Instr::Local { a, imm } => {
+                self.take_local(a, natural(imm));
+                None
+            }
+            Instr::Wipe { imm } => {
+                self.wipe(natural(imm));
+                None
+            }
+            Instr::Load {
+                kind,
+                line,
+                a,
+                b,
+                c,
+            } => {
+                return Effect::Loads {
+                    kind,
+                    line,
+                    a,
+                    b,
+                    c,
+                };
+            }
+            Instr::Store {
+                kind,
+                line,
+                a,
+                b,
+                c,
+            } => {
+                return Effect::Stores {
+                    kind,
+                    line,
+                    a,
+                    b,
+                    c,
+                };
+            }
             Instr::Slide { a, b, c, imm } => self.slide_by_size(a, b, c, imm),
             Instr::SlideBy { a, b, imm } => self.slide_by_offset(a, b, imm),
-            Instr::Exit { b } => self.exit(b),
+            Instr::Shift { a, b, c } => self.shift(a, b, c),
+            Instr::Same { a, b, c } => {
+                self.same(a, b, c);
+                None
+            }
+            Instr::Order { relation, a, b, c } => {
+                self.order(relation, a, b, c);
+                None
+            }
+            Instr::Difference { a, b, c, imm } => {
+                self.difference(a, b, c, natural(imm));
+                None
+            }
             Instr::GetChar { a } => return Effect::Reads { a },
             Instr::PutChar { a, b } => return Effect::Writes { a, b },
-            Instr::Static { .. }
-            | Instr::Local { .. }
-            | Instr::Wipe { .. }
-            | Instr::Load { .. }
-            | Instr::Store { .. }
-            | Instr::Shift { .. }
-            | Instr::Same { .. }
-            | Instr::Order { .. }
-            | Instr::Difference { .. }
-            | Instr::Malloc { .. }
-            | Instr::Calloc { .. }
-            | Instr::Free { .. } => unreachable!(),
+            Instr::Malloc { a, b } => self.malloc(a, b),
+            Instr::Calloc { a, b, c } => self.calloc(a, b, c),
+            Instr::Free { line, b } => return Effect::Frees { line, b },
+            Instr::Exit { b } => self.exit(b),
         })
     }
 }

@@ -1,4 +1,4 @@
-ghost use Rattle.std.specs.Prelude.{◌≡◌, ◌≤◌, ◌+ℤ◌, ◌*ℤ◌, unsigned_abs, IsFalse};
+ghost use Rattle.std.specs.Prelude.{◌≡◌, ◌≤◌, ◌<◌, ◌^◌, ◌+ℤ◌, ◌*ℤ◌, unsigned_abs, IsFalse};
 ghost use Rattle.ob_words.specs.Operators.{binary, compare, shifts};
 ghost use Rattle.ob_words.specs.Types.{IsNumber};
 ghost use Rattle.ob_words.specs.Words.{number, word};
@@ -24,6 +24,21 @@ pub(crate) fn int_of(w: u64) -> i64
     ensures { result ≡ number Int w }
 {
     number(IntType::Int, w) as i64
+}
+
+/// A number of an instruction that isn't negative.
+pub(crate) fn natural(imm: i64) -> u32
+    requires { unsigned_abs imm < 2 ^ 32 }
+    ensures { result ≡ unsigned_abs imm }
+{
+    imm.unsigned_abs() as u32
+}
+
+/// The `long` that a word stands for.
+pub(crate) fn signed(w: u64) -> i64
+    ensures { result ≡ number Long w }
+{
+    number(IntType::Long, w) as i64
 }
 
 /// The word of a word's number in type `t`.

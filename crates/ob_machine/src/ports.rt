@@ -1,18 +1,20 @@
-ghost use Rattle.std.specs.Prelude.{◌≡◌, ◌≢◌, ◌<◌, ◌≤◌, ◌+◌, ◌^◌, ◌%◌, [], length, MatchResult};
+ghost use Rattle.std.specs.Prelude.{◌≡◌, ◌≢◌, ◌<◌, ◌≤◌, ◌+◌, ◌^◌, ◌%◌, [], length, vec_capacity, IfOk, MatchResult};
 ghost use Rattle.std.specs.Io.KnownBytes.{prepend_known};
 ghost use Rattle.ob_code.specs.Machine.{get, get_char, put_char, ticked};
 ghost use Rattle.ob_code.specs.Rules.{IsWritten};
 ghost use Rattle.ob_model.specs.Endings.{InputEnd};
 ghost use Rattle.ob_space.specs.Loaded.{top_words};
-ghost use Rattle.ob_machine.specs.Buffers.{IsUsedUp};
+ghost use Rattle.ob_machine.specs.Buffers.{IsUsedUp, nothing_read};
 ghost use Rattle.ob_machine.specs.Exchanges.{Answers, KnowsEnd, Puts, Refills, devices};
 ghost use Rattle.ob_machine.specs.Executions.{Beside, SameRows, state_of, word_of_byte};
+ghost use Rattle.ob_machine.specs.Hearing.{Audience};
 
 use crate::buffers::input::InputBuffer;
 use crate::buffers::output::OutputBuffer;
 use crate::execution::Execution;
-use ob_base::{Sink, Source};
+use ob_base::{NoMemory, Sink, Source};
 use ob_model::Ending;
+use std::alloc::Global;
 
 /// The buffers of a run, and room for the words that a call hands over.
 #[derive(Drop)]
@@ -22,18 +24,32 @@ pub(crate) struct Ports {
     pub arguments: Vec<u64>,
 }
 
-/// The device that failed.
+/// The device that failed, or that there was no memory for a store.
 #[derive(Clone, Copy, Debug)]
 pub(crate) enum Fault {
     Read,
     Write,
+    Memory,
 }
 
 impl Ports {
+    /// Empty buffers, and room for so many words.
+    pub(crate) fn new(alloc: Global, room: u32) -> Result<Ports, NoMemory>
+        ensures input { IfOk result (λ p. p.input ≡ nothing_read) }
+        ensures output { IfOk result (λ p. p.output ≡ []) }
+        ensures room { IfOk result (λ p. room ≤ vec_capacity p.arguments) }
+    {
+        Ok(Ports {
+            input: InputBuffer::new(alloc)?,
+            output: OutputBuffer::new(alloc)?,
+            arguments: Vec::with_capacity(alloc, room as usize)?,
+        })
+    }
+
     /// Sends what is pending, and reads once.
     fn refill<S: Source, K: Sink>(&mut self, source: &mut S, sink: &mut K) -> Result<(), Fault>
         requires { IsUsedUp self.old.input }
-        ensures answer { Refills (devices self.old (S.left source.old) (S.faults source.old) (K.taken sink.old) (K.tally sink.old) (K.faults sink.old)) (devices self.new (S.left source.new) (S.faults source.new) (K.taken sink.new) (K.tally sink.new) (K.faults sink.new)) result }
+        ensures answer { (hears : Audience) → Refills (devices self.old (S.left source.old) (S.faults source.old) (K.taken sink.old) (K.tally sink.old) (K.faults sink.old) hears) (devices self.new (S.left source.new) (S.faults source.new) (K.taken sink.new) (K.tally sink.new) (K.faults sink.new) hears) result }
         ensures arguments { self.new.arguments ≡ self.old.arguments }
     {
         if self.output.send(sink).is_err() {
@@ -67,7 +83,7 @@ impl Execution {
         requires written { IsWritten (top_words self.old.space) a }
         requires counter { self.old.counter < 2 ^ 32 }
         requires end { KnowsEnd ports.old.input (S.left source.old) }
-        ensures answer { Answers (λ input_end s. ticked s.steps s (λ t. get_char input_end t.input a t)) self.old self.new (devices ports.old (S.left source.old) (S.faults source.old) (K.taken sink.old) (K.tally sink.old) (K.faults sink.old)) (devices ports.new (S.left source.new) (S.faults source.new) (K.taken sink.new) (K.tally sink.new) (K.faults sink.new)) result }
+        ensures answer { (hears : Audience) → Answers (λ input_end s. ticked s.steps s (λ t. get_char input_end t.input a t)) self.old self.new (devices ports.old (S.left source.old) (S.faults source.old) (K.taken sink.old) (K.tally sink.old) (K.faults sink.old) hears) (devices ports.new (S.left source.new) (S.faults source.new) (K.taken sink.new) (K.tally sink.new) (K.faults sink.new) hears) result }
         ensures rows { SameRows self.old.space self.new.space }
         ensures arguments { ports.new.arguments ≡ ports.old.arguments }
     {

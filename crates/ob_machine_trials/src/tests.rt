@@ -4,8 +4,9 @@
 use ob_base::{MemSink, MemSource, Sink, Source};
 use ob_code::{FunctionRow, Image, Instr, Rows, verify};
 use ob_machine::Machine;
+use ob_maker::Zero;
 use ob_model::{Ending, Mode, Profile, RunSettings};
-use ob_space::is_built;
+use ob_watch::Counter;
 use ob_words::{BinOp, IntType, Relation};
 use std::alloc::{AllocError, Global};
 use std::process::Abort;
@@ -90,7 +91,6 @@ fn loaded(rt: &impl Abort, alloc: Global, code: &[Instr]) -> Result<Machine, Fai
     let v = verify(image(alloc, code)?)
         .ok()
         .expect(rt, "the image keeps the rules");
-    assert!(rt; is_built(&v));
     Ok(Machine::load(alloc, v, &SETTINGS)?)
 }
 
@@ -102,15 +102,18 @@ const SETTINGS: RunSettings = RunSettings {
     profile: Profile::One,
 };
 
-// How a run ends on these devices; the machine is fresh.
+// How a run ends on these devices; the machine is fresh, and nobody watches.
 fn run_fresh(
     rt: &impl Abort,
+    alloc: Global,
     machine: &mut Machine,
     input: &mut MemSource,
     out: &mut MemSink,
 ) -> Ending {
     assert!(rt; machine.is_fresh());
-    machine.run(5_000, input, out)
+    let mut maker = Zero::new();
+    let mut watchers: Vec<Counter> = Vec::new(alloc);
+    machine.run(5_000, &mut maker, &mut watchers, input, out)
 }
 
 // How a run of this code ends on these devices.
@@ -122,14 +125,14 @@ fn ending(
     out: &mut MemSink,
 ) -> Result<Ending, Fail> {
     let mut machine = loaded(rt, alloc, code)?;
-    Ok(run_fresh(rt, &mut machine, input, out))
+    Ok(run_fresh(rt, alloc, &mut machine, input, out))
 }
 
 // The echo of `x`, one byte a call, takes 12 instructions.
 fn echoes(rt: &impl Abort, alloc: Global, machine: &mut Machine) -> Result<(), Fail> {
     let mut input = MemSource::new(alloc, b"x", &[], 1)?;
     let mut out = MemSink::new(alloc, 16, &[], 1)?;
-    let came = run_fresh(rt, machine, &mut input, &mut out);
+    let came = run_fresh(rt, alloc, machine, &mut input, &mut out);
     assert_eq!(rt; (came, machine.instructions()), (Ending::Ended(0), 12));
     Ok(())
 }
@@ -144,7 +147,7 @@ fn ending_again(
     let mut machine = loaded(rt, alloc, &ECHO)?;
     echoes(rt, alloc, &mut machine)?;
     machine.reset();
-    Ok(run_fresh(rt, &mut machine, input, out))
+    Ok(run_fresh(rt, alloc, &mut machine, input, out))
 }
 
 // The echo of `ab`, on devices that move one byte a call, whose read and write of these numbers fail.

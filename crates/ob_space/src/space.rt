@@ -1,6 +1,7 @@
 ghost use Rattle.std.specs.Prelude.{◌≡◌, ◌+◌, ◌*◌, ◌<◌, ◌≤◌, ◌^◌, length, IfOk, MatchResult};
 ghost use Rattle.ob_model.specs.Settings.{IsFit};
 ghost use Rattle.ob_code.specs.Frames.{frame_word, top_base, with_word};
+ghost use Rattle.ob_code.specs.Shown.{top_number};
 ghost use Rattle.ob_frames.specs.Links.{KeepsLinks};
 ghost use Rattle.ob_frames.specs.Writes.{WritesWord};
 ghost use Rattle.ob_standing.specs.Laws.{KeepsStanding};
@@ -116,6 +117,14 @@ impl Space {
         let row = self.frames.row(call.function);
         self.living.leave(call.base, call.first, row);
         Some(call.link)
+    }
+
+    /// The number of the innermost call's function, from 0. `None` comes exactly where no call is in progress.
+    pub fn function(&self) -> Option<u32>
+        ensures { result ≡ top_number self.now.space.calls }
+    {
+        let top = self.frames.top()?;
+        Some(top.0)
     }
 
     /// A word of the innermost call's frame, counted from 0. The frame has more than `index` words.

@@ -17,4 +17,4 @@ returns-clause-state c =
 
 pub returns-clause-ready : goal.returns-clause-ready
 returns-clause-ready c =
-    ready_start c.args.image.now c.args.self.now c.enter.new.self c.enter.result c.requires.verified c.requires.rows c.requires.calls c.requires.numbered c.enter.ensures.rows (returns-clause-state c)
+    ready_start c.args.image.now c.args.self.now c.enter.new.self c.enter.result c.requires.verified c.requires.rows c.requires.statics c.requires.calls c.requires.numbered c.enter.ensures.rows (returns-clause-state c)
