@@ -32,11 +32,19 @@ fn settings(flags: &str) -> RunSettings
     ensures { IsFit result }
 {
     RunSettings {
-        mode: if has(flags, "boundless") { Mode::Boundless } else { Mode::Oblivious },
+        mode: if has(flags, "boundless") {
+            Mode::Boundless
+        } else {
+            Mode::Oblivious
+        },
         store: setting(flags, "store=", 64).clamp(1, 1_048_576),
         away: setting(flags, "away=", 64).min(1_048_576),
         heap: setting(flags, "heap=", 4096).min(67_108_864),
-        profile: if has(flags, "two") { Profile::Two } else { Profile::One },
+        profile: if has(flags, "two") {
+            Profile::Two
+        } else {
+            Profile::One
+        },
     }
 }
 

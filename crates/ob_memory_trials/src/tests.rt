@@ -113,11 +113,7 @@ const POINTERS: [Row; 7] = [
         "object 4 ; static 2 1 ; set 3 4 ; shift 4 2 3 ; set 3 5 ; shift 5 2 3 ; exit 3 ;",
         "Descriptors 2=4096 3=5 4=4100",
     ),
-    (
-        "",
-        "set 3 100 ; shift 4 2 3 ; exit 3 ;",
-        "ends 3=100",
-    ),
+    ("", "set 3 100 ; shift 4 2 3 ; exit 3 ;", "ends 3=100"),
     (
         "",
         "object 4 ; object 4 ; static 2 1 ; static 3 2 ; set 4 100 ; shift 5 2 4 ; before 6 5 3 ; before 7 3 5 ; between 8 5 2 4 ; between 9 3 2 1 ; exit 4 ;",
@@ -215,11 +211,7 @@ fn bounded_list(rt: HostRuntime) -> Result<(), Fail> {
 
 // `free` of null, of an inner pointer, of a static object and twice, under both profiles; a heap that is full, and the least place.
 const FREED: [Row; 9] = [
-    (
-        "",
-        "free 2 ; exit 2 ;",
-        "ends",
-    ),
+    ("", "free 2 ; exit 2 ;", "ends"),
     (
         "",
         "set 3 4 ; malloc 2 3 ; set 4 1 ; shift 5 2 4 ; free 5 ; load char 6 2 4 ; exit 3 ;",
@@ -284,11 +276,7 @@ const FRAMES: [Row; 4] = [
         "set 3 5 ; call 4 1 ; call 5 1 ; exit 3 ; fn ; call 2 2 ; set 3 1 ; add 2 2 3 ; return 2 ; fn ; set 2 41 ; return 2 ;",
         "ends 3=5 4=42 5=42",
     ),
-    (
-        "",
-        "call 4 0 ; exit 3 ;",
-        "Steps",
-    ),
+    ("", "call 4 0 ; exit 3 ;", "Steps"),
 ];
 
 #[test]
