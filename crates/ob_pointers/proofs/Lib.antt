@@ -1,6 +1,7 @@
 pub mod Lists
 pub mod Known
 pub mod Renaming
+pub mod Empty
 pub mod Sound
 pub mod Slotting
 pub mod Marks
