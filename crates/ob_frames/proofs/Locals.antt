@@ -1,8 +1,7 @@
 -- The bytes of local objects lie in frames behind the link words.
-use Rattle.std.proofs.Common.{◌≡◌, ℕ, zero, suc, ◌+◌, ◌-◌, ◌<◌, ◌≤◌, ◌⊎◌, inl, inr, Some, slice_get, List, [], ◌∷◌, ◌++◌, length, take, arith, ap, subst, sym, ◌∙◌}
+use Rattle.std.proofs.Common.{◌≡◌, ℕ, zero, suc, ◌+◌, ◌-◌, ◌<◌, ◌≤◌, inl, inr, List, [], ◌∷◌, ◌++◌, length, take, arith, ap, subst, sym}
 use Rattle.std.proofs.lemmas.Option.{slice_get-get_or}
 use Rattle.ob_words.specs.Words.{block}
-use Rattle.ob_flat.specs.Memory.{IsIn, IsWithin}
 use Rattle.ob_code.specs.declared.image.FunctionRow.{FunctionRow}
 use Rattle.ob_code.specs.declared.image.StaticRow.{StaticRow}
 use Rattle.ob_code.specs.Frames.{allowances, end_of, frame_length, function_at, local_end, locals_end, next_base, top_base, top_function}
@@ -10,9 +9,7 @@ use Rattle.ob_code.specs.Layout.{no_local, static_blocks}
 use Rattle.ob_code.specs.Rules.{IsFrameSound, local_at, static_at}
 use Rattle.ob_code.specs.State.{Call}
 use Rattle.ob_frames.specs.Calls.{AreStacked}
-use Rattle.ob_frames.specs.Framed.{Framed}
-use Rattle.ob_frames.specs.Kept.{IsFramed}
-use Rattle.ob_frames.specs.Laws.{IsInLocal, LocalsLieInMemory, LocalsMeetNoLink, OthersMeetNoLink, StaticsLieInMemory}
+use Rattle.ob_frames.specs.Laws.{LocalsLieInMemory, LocalsMeetNoLink, OthersMeetNoLink, StaticsLieInMemory}
 use Rattle.ob_frames.specs.Links.{MeetsNoLink}
 use Rattle.ob_frames.proofs.CallLists.{AllRun, frame_is_long, frames_begin, frames_end, in_stack}
 

@@ -1,12 +1,11 @@
 -- Calls come and go innermost first.
-use Rattle.std.proofs.Common.{◌≡◌, ℕ, ◌+◌, ◌<◌, ◌≤◌, List, [], ◌∷◌, ◌++◌, length, refl, ap, arith, subst, sym, ◌∙◌}
+use Rattle.std.proofs.Common.{◌≡◌, ◌+◌, ◌<◌, List, [], ◌∷◌, ◌++◌, length, refl, ap, arith, subst, sym, ◌∙◌}
 use Rattle.std.proofs.lemmas.List.{append_assoc, length-append}
-use Rattle.ob_flat.specs.Memory.{Memory}
 use Rattle.ob_code.specs.declared.image.FunctionRow.{FunctionRow}
 use Rattle.ob_code.specs.Frames.{entered}
 use Rattle.ob_code.specs.State.{Call, Space}
 use Rattle.ob_frames.specs.Laws.{Between, nothing, write, call, KeptOnceEntered, KeptOnceLeft, LeaveGivesItsLink}
-use Rattle.ob_frames.specs.Links.{HasLinks, LinksAreKept}
+use Rattle.ob_frames.specs.Links.{HasLinks}
 use Rattle.ob_frames.specs.Leaving.{top_link, left_top}
 
 left_calls : (functions : List FunctionRow) (s : Space) (c : Call) (cs : List Call) → s.calls ≡ c ∷ cs → (left_top functions s.calls s).calls ≡ cs

@@ -2,7 +2,7 @@
 -- progress, the innermost first. What entering and leaving a call do to them.
 use Rattle.std.specs.Prelude.{◌≡◌, ℕ, ◌+◌, ◌*◌, ◌<◌, true, false, List, [], ◌∷◌, length, Option, Some, None}
 use Rattle.ob_model.specs.Limits.{stack_bytes}
-use Rattle.ob_flat.specs.Memory.{Memory, with_field, zeroed}
+use Rattle.ob_flat.specs.Memory.{Memory, zeroed}
 use Rattle.ob_code.specs.declared.image.FunctionRow.{FunctionRow}
 use Rattle.ob_code.specs.declared.image.Image.{Image}
 use Rattle.ob_code.specs.declared.image.LocalRow.{LocalRow}

@@ -1,4 +1,3 @@
-use Rattle.std.proofs.Common.{◌-◌, ◌%◌}
 use Rattle.ob_frames.specs.Calls.{calls_in}
 use Rattle.ob_frames.specs.Links.{AllHaveLinks, MeetsNoLink}
 use Rattle.ob_frames.proofs.CallLists.{keeps_links}
