@@ -1,5 +1,5 @@
 -- Where a run comes to, from what its loop answers.
-use Rattle.std.proofs.Common.{◌≡◌, ℕ, ◌≤◌, List, [], ◌++◌, Option, Some, None, refl, sym, ap, ◌∙◌, subst, arith, inl, inr}
+use Rattle.std.proofs.Common.{◌≡◌, ℕ, ◌≤◌, List, [], ◌++◌, Option, Some, None, refl, sym, ap, ◌∙◌, subst, arith}
 use Rattle.std.specs.Io.KnownBytes.{append_known, prepend_known, IsAtEnd}
 use Rattle.std.proofs.lemmas.List.{append-nil}
 use Rattle.ob_base.specs.Faults.{Rose}
@@ -17,7 +17,7 @@ use Rattle.ob_machine.specs.Exchanges.{CanFollow, CutAfterRead, Devices, EndsAtR
 use Rattle.ob_machine.specs.Executions.{state_of}
 use Rattle.ob_machine.specs.Finished.{ComesOut, Flushed, at_start, ended, broken, starved}
 use Rattle.ob_machine.specs.Hearing.{Audience}
-use Rattle.ob_machine.specs.Machines.{HasStore, Hearing, after_events}
+use Rattle.ob_machine.specs.Machines.{Hearing, after_events}
 use Rattle.ob_machine.specs.Buffers.{SentOrPending}
 use Rattle.ob_machine.proofs.Flushed.{cut_last}
 use Rattle.ob_machine.proofs.Sent.{flush_prefix, sent_prefix}
@@ -121,16 +121,16 @@ module _ (run : InputEnd → State → Final) (e f : Execution) (d d' : Devices)
         input_end = closed;
         is_input = record { read = a.read; unread = rest_of d'.left; input_is = refl; was = a.moves.was_left; told = told_rest d'.left; quiet = a.moves.read_quiet };
         comes = broken
-          (record {
-            ending = refl;
-            output = record {
-              took = subst (λ x. TakesPrefix d.taken taken d.tally tally x.state.output) (sym final) (subst (λ bytes. TakesPrefix d.taken taken d.tally tally bytes) (written_all a.written) (flush_prefix d.taken d'.taken taken d.tally d'.tally tally d'.pending (d.pending ++ a.written) a.moves.sent took));
-              cause = subst (λ k. Rose k faults) a.moves.write_quiet cause;
-            };
-            told = record { told = a.told; begins = subst (λ x. Begins a.told x.state.events) (sym final) ([], sym (append-nil a.told)); seen = a.moves.heard.seen };
-            instructions = let same = ap (λ x. x.state.instructions) final in omega (arith, same);
-          })
-          (cut_is a.read a.written taken tally faults a.moves.was_left a.moves.read_quiet cut (subst (λ x. Begins a.written x.state.output) (sym final) ([], sym (append-nil a.written))));
+            (record {
+              ending = refl;
+              output = record {
+                took = subst (λ x. TakesPrefix d.taken taken d.tally tally x.state.output) (sym final) (subst (λ bytes. TakesPrefix d.taken taken d.tally tally bytes) (written_all a.written) (flush_prefix d.taken d'.taken taken d.tally d'.tally tally d'.pending (d.pending ++ a.written) a.moves.sent took));
+                cause = subst (λ k. Rose k faults) a.moves.write_quiet cause;
+              };
+              told = record { told = a.told; begins = subst (λ x. Begins a.told x.state.events) (sym final) ([], sym (append-nil a.told)); seen = a.moves.heard.seen };
+              instructions = let same = ap (λ x. x.state.instructions) final in omega (arith, same);
+            })
+            (cut_is a.read a.written taken tally faults a.moves.was_left a.moves.read_quiet cut (subst (λ x. Begins a.written x.state.output) (sym final) ([], sym (append-nil a.written))));
       }
 
   pub came_read : RunFailsToRead run e f d d' → ComesOut run e f reads (record { taken_before = d.taken; taken_now = d'.taken; tally_before = d.tally; tally_now = d'.tally; faults_before = d.write_faults; faults_now = d'.write_faults }) heard ReadFault
@@ -182,16 +182,16 @@ module _ (run : InputEnd → State → Final) (e f : Execution) (d d' : Devices)
         input_end = closed;
         is_input = record { read = a.read; unread = rest_of d'.left; input_is = refl; was = a.was_left; told = told_rest d'.left; quiet = a.read_quiet };
         comes = broken
-          (record {
-            ending = refl;
-            output = record {
-              took = begun_prefix d'.taken d'.tally a.written _ begins (subst (λ bytes. TakesPrefix d.taken d'.taken d.tally d'.tally bytes) (written_all a.written) a.took);
-              cause = a.cause;
-            };
-            told = record { told = a.told; begins = told_until a.told a.last a.read a.written a.knows_end a.begins; seen = a.heard.seen };
-            instructions = counted_until a.told a.last a.read a.written a.knows_end a.begins;
-          })
-          (cut_is a.read a.written d'.taken d'.tally d'.write_faults a.was_left a.read_quiet a.cut begins);
+            (record {
+              ending = refl;
+              output = record {
+                took = begun_prefix d'.taken d'.tally a.written _ begins (subst (λ bytes. TakesPrefix d.taken d'.taken d.tally d'.tally bytes) (written_all a.written) a.took);
+                cause = a.cause;
+              };
+              told = record { told = a.told; begins = told_until a.told a.last a.read a.written a.knows_end a.begins; seen = a.heard.seen };
+              instructions = counted_until a.told a.last a.read a.written a.knows_end a.begins;
+            })
+            (cut_is a.read a.written d'.taken d'.tally d'.write_faults a.was_left a.read_quiet a.cut begins);
       }
 
   pub came_starved : RunLacksMemory run e f d d' → ComesOut run e f reads (record { taken_before = d.taken; taken_now = d'.taken; tally_before = d.tally; tally_now = d'.tally; faults_before = d.write_faults; faults_now = d'.write_faults }) heard NoMemory

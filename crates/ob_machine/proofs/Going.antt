@@ -6,7 +6,6 @@ use Rattle.ob_base.specs.Faults.{Rose}
 use Rattle.ob_base.specs.Sink.{Tally, TakesPrefix, tally_known}
 use Rattle.ob_model.specs.declared.endings.Ending.{Ending}
 use Rattle.ob_model.specs.declared.endings.Ending.TheVariants.{ReadFault, Spent}
-use Rattle.ob_model.specs.declared.settings.Mode.TheVariants.{Boundless}
 use Rattle.ob_model.specs.declared.settings.RunSettings.{RunSettings}
 use Rattle.ob_model.specs.declared.strays.StrayEvent.{StrayEvent}
 use Rattle.ob_model.specs.Endings.{Begins, InputEnd, closed, failed}
@@ -20,7 +19,6 @@ use Rattle.ob_machine.specs.declared.ports.Fault.{Fault}
 use Rattle.ob_machine.specs.Effects.{IsReady}
 use Rattle.ob_machine.specs.Exchanges.{Advances, Answers, CanFollow, Devices, EndsAtRead, FailsToRead, Foreshows, KnowsEnd, LacksMemory, LastRead, Moves, NeedsRead, RunEnds, RunFailsToRead, RunFailsToWrite, RunLacksMemory, begun, having_done, reading}
 use Rattle.ob_machine.specs.Executions.{Beside, SameRows, does, setup, state_of}
-use Rattle.ob_machine.specs.Hearing.{Audience, GoesOnTelling, Hears}
 use Rattle.ob_machine.specs.Buffers.{SentOrPending}
 use Rattle.ob_machine.proofs.Exchanged.{nothing_done, still}
 use Rattle.ob_machine.proofs.Told.{hears_same, hears_then, store_told, sent_part}

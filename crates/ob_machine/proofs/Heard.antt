@@ -1,5 +1,5 @@
 -- Checked accesses and `free`, and what they tell and take.
-use Rattle.std.proofs.Common.{◌≡◌, ℕ, ◌+◌, ◌-◌, ℤ, List, [], ◌∷◌, ◌++◌, Option, Some, None, refl, sym, ap, ◌∙◌}
+use Rattle.std.proofs.Common.{◌≡◌, ℕ, ◌+◌, ◌-◌, ℤ, [], ◌++◌, Option, Some, None, refl, sym, ap, ◌∙◌}
 use Rattle.std.specs.Option.{option_map}
 use Rattle.std.proofs.lemmas.List.{append-nil}
 use Rattle.ob_words.specs.Words.{number}
@@ -9,7 +9,7 @@ use Rattle.ob_model.specs.declared.strays.Act.TheVariants as act
 use Rattle.ob_model.specs.declared.strays.StrayEvent.{StrayEvent}
 use Rattle.ob_model.specs.declared.values.LoadKind.{LoadKind}
 use Rattle.ob_model.specs.Accesses.{bytes_of_kind, stray_event}
-use Rattle.ob_code.specs.Accesses.{Access, too_far, direct, own, outside, vanishing, access, event_of, found_word, space_after_load, space_after_store}
+use Rattle.ob_code.specs.Accesses.{Access, too_far, direct, own, outside, vanishing, event_of, found_word, space_after_load, space_after_store}
 use Rattle.ob_code.specs.Allocation.{free_event, freeing, place_word, space_after_free}
 use Rattle.ob_code.specs.Frames.{frame_word, top_function}
 use Rattle.ob_code.specs.Machine.{free, load, on, set_or_made, set_word, store, told}

@@ -20,7 +20,7 @@ use Rattle.ob_machine.specs.declared.ports.Ports.{Ports}
 use Rattle.ob_base.specs.Devices.{Reading, Writing}
 use Rattle.ob_machine.specs.Devices.{IsInput}
 use Rattle.ob_machine.specs.Executions.{SameRows, setup, state_of}
-use Rattle.ob_machine.specs.Finished.{Broken, Comes, ComesOut, Ended, Flushed, IsToldUntil, at_start, ended, broken as broken_before, starved as starved_before}
+use Rattle.ob_machine.specs.Finished.{Comes, ComesOut, IsToldUntil, at_start, ended, broken as broken_before, starved as starved_before}
 use Rattle.ob_machine.specs.Machines.{ComesTo, Hearing, IsFlushedBeforeReads, IsPartlyTold, MachineState, Runs, done, broken, starved}
 use Rattle.ob_machine.specs.Wiring.{IsUnused}
 use Rattle.ob_machine.proofs.Reached.{first_next, no_calls}

@@ -15,7 +15,7 @@ use Rattle.ob_code.specs.declared.image.NameRow.{NameRow}
 use Rattle.ob_code.specs.Accesses.{read_memory}
 use Rattle.ob_code.specs.Frames.{frame_word, function_at, top_base, top_function}
 use Rattle.ob_code.specs.Kinds.{load_kind_of}
-use Rattle.ob_code.specs.Layout.{local_at, local_base, local_of, no_local}
+use Rattle.ob_code.specs.Layout.{local_base, local_of, no_local}
 use Rattle.ob_code.specs.Rules.{IsFrameSound, IsHeldSound, IsLocalLong, IsVariableNameSound, IsVerified, bytes_of_number, local_at as row_at}
 use Rattle.ob_code.specs.Shown.{local_word, shown_word, static_word, top_number, variable_word}
 use Rattle.ob_code.specs.State.{Call, Space}

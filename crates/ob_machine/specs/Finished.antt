@@ -1,5 +1,5 @@
 -- Where a run came to, with its devices, its maker and its watchers.
-use Rattle.std.specs.Prelude.{◌≡◌, ℕ, ◌≤◌, ◌⊎◌, List, []}
+use Rattle.std.specs.Prelude.{◌≡◌, ℕ, ◌≤◌, List, []}
 use Rattle.ob_base.specs.Devices.{Reading, Writing, IsWritten, IsCutOff}
 use Rattle.ob_model.specs.declared.endings.Ending.{Ending}
 use Rattle.ob_model.specs.declared.endings.Ending.TheVariants.{WriteFault, NoMemory}

@@ -51,6 +51,7 @@ pub(crate) enum Effect {
 
 impl Execution {
     /// The next instruction.
+    #[inline]
     fn fetch(&self, image: &Image) -> Instr
         requires verified { IsVerified image.now }
         requires ready { IsReady image.now self.now }
@@ -117,7 +118,8 @@ impl Execution {
         Some(Ending::Ended(int_of(self.word(b))))
     }
 
-    /// Does the next instruction, unless it needs a device. It takes no memory.
+    /// Does the next instruction, unless it needs a device, a maker or watchers. It takes no memory.
+    #[inline]
     pub(crate) fn act(&mut self, image: &Image, arguments: &mut Vec<u64>) -> Effect
         requires verified { IsVerified image.now }
         requires ready { IsReady image.now self.old }

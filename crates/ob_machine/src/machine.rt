@@ -185,15 +185,9 @@ impl Machine {
         let limit = (image.code.as_slice().len() as u64 + 1) * (steps + 1);
         self.fresh = false;
         self.execution.steps = steps;
-        let ending = self.execution.run_out(
-            image,
-            &mut self.ports,
-            maker,
-            watchers,
-            input,
-            out,
-            limit,
-        );
+        let ending = self
+            .execution
+            .run_out(image, &mut self.ports, maker, watchers, input, out, limit);
         maker.stands();
         ending
     }

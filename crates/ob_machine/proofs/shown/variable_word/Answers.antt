@@ -1,7 +1,7 @@
 use Rattle.std.specs.List.{find}
 use Rattle.std.proofs.Common.{◌≡◌, ◌==◌, ap, ◌∙◌, sym, subst, arith, inr}
 use Rattle.ob_code.specs.Accesses.{read_memory}
-use Rattle.ob_machine.proofs.ShownRows.{IsPlaceIn, few_locals, local_is, local_missing, local_shown, not_placed, placed_in, place_in}
+use Rattle.ob_machine.proofs.ShownRows.{IsPlaceIn, few_locals, local_is, local_missing, local_shown, not_placed, placed_in}
 use Rattle.ob_machine.proofs.shown.variable_word.Goals as goal
 
 pub overflow_cast-place : goal.overflow_cast-place

@@ -1,5 +1,5 @@
-use Rattle.std.proofs.Common.{◌≡◌, sym, ap, ◌∙◌}
-use Rattle.ob_code.specs.Allocation.{allocated_at, place_word}
+use Rattle.std.proofs.Common.{◌≡◌, sym, ◌∙◌}
+use Rattle.ob_code.specs.Allocation.{place_word}
 use Rattle.ob_code.specs.Machine.{set_word}
 use Rattle.ob_space.specs.Loaded.{heap_place}
 use Rattle.ob_machine.specs.Executions.{state_of}

@@ -1,4 +1,4 @@
-use Rattle.std.proofs.Common.{◌-◌, ◌*◌, sym, ap, ◌∙◌}
+use Rattle.std.proofs.Common.{◌-◌, ◌*◌, sym, ◌∙◌}
 use Rattle.ob_model.specs.Heap.{place_for}
 use Rattle.ob_code.specs.Machine.{allocate, get}
 use Rattle.ob_machine.specs.Executions.{state_of}

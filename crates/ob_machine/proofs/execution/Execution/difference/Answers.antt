@@ -18,8 +18,8 @@ returns-clause-state c =
     let fits : FitsSigned w64 count = record { sfits = c.difference-count.type_inv } in
     let small : unsigned_abs count ≤ 2 ^ 63 = omega (arith, ints, abs_is count, fits.sfits) in
     let same =
-        c.word.ensures ∙ ap word (wide_is count fits small) ∙ word_of_long n count c.difference-count.ensures.answer
-        ∙ (λ i. word (difference (c.from.ensures i) (pointer_at s (c.word-left.ensures i)) (pointer_at s (c.word-right.ensures i)))) in
+    c.word.ensures ∙ ap word (wide_is count fits small) ∙ word_of_long n count c.difference-count.ensures.answer
+    ∙ (λ i. word (difference (c.from.ensures i) (pointer_at s (c.word-left.ensures i)) (pointer_at s (c.word-right.ensures i)))) in
     λ r. ap (set_word (state_of c.args.self.now r) c.args.a) (sym same)
     ∙ (λ i. set_word (state_of (record c.args.self.now { space = sym c.difference-count.ensures.kept i }) r) c.args.a c.word.result)
     ∙ c.set_word.ensures.state r

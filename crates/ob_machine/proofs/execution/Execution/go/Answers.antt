@@ -94,7 +94,7 @@ loop-n-preserved-in_default g c =
     let faults = g.K.Sink.faults c.send.new.out in
     let emptied : c.send.new.self ≡ [] = c.in_default.ensures.emptied in
     record {
-      going = 
+      going =
           subst (λ pending. Going c.args.image.now settings cycle c.args.limit (c.loop-n.n - 1) c.args.self.now c.step.new.self d (record d'' { pending = pending; taken = taken; tally = tally; write_faults = faults })) (sym emptied)
           (going_sent c.args.image.now settings cycle c.args.limit (c.loop-n.n - 1) c.args.self.now c.step.new.self d d'' taken tally faults
           (turn_on c.args.image.now settings cycle c.args.limit c.loop-n.n c.args.self.now c.loop-n.self c.step.new.self d d' d'' c.loop-n-test.true c.loop-n.invariant.going done)

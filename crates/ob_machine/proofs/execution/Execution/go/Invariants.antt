@@ -1,4 +1,4 @@
-use Rattle.std.proofs.Common.{◌≡◌, ℕ, ◌+◌, ◌<◌, length, map, vec_capacity}
+use Rattle.std.proofs.Common.{◌≡◌, ◌+◌, ◌<◌, length, map, vec_capacity}
 use Rattle.ob_machine.specs.Effects.{IsReady}
 use Rattle.ob_machine.specs.Exchanges.{KnowsEnd, devices}
 use Rattle.ob_machine.specs.Executions.{SameRows}

@@ -1,10 +1,8 @@
-use Rattle.std.proofs.Common.{◌≡◌, ℤ, of_z, to_z, w64, map, refl, sym, ap, ◌∙◌, subst}
+use Rattle.std.proofs.Common.{of_z, to_z, w64, refl, sym, ap, ◌∙◌, subst}
 use Rattle.std.proofs.lemmas.Int.{to_z-of_z}
 use Rattle.ob_words.specs.Words.{number}
 use Rattle.ob_words.specs.declared.types.IntType.TheVariants.{Long}
 use Rattle.ob_code.specs.Rules.{IsWritten}
-use Rattle.ob_space.specs.Loaded.{top_words}
-use Rattle.ob_machine.specs.Hearing.{Audience}
 use Rattle.ob_machine.proofs.Heard.{load_far, load_heard, load_words}
 use Rattle.ob_machine.proofs.execution.Execution.load.Goals as goal
 

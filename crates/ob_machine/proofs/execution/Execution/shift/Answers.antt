@@ -1,4 +1,4 @@
-use Rattle.std.proofs.Common.{of_z, to_z, w64, refl, sym, ap, ◌∙◌}
+use Rattle.std.proofs.Common.{w64, sym, ap, ◌∙◌}
 use Rattle.std.proofs.lemmas.Int.{to_z-of_z}
 use Rattle.ob_words.specs.Words.{number}
 use Rattle.ob_words.specs.declared.types.IntType.TheVariants.{Long}

@@ -1,8 +1,5 @@
-use Rattle.std.proofs.Common.{map}
-use Rattle.ob_watch.specs.Watching.{Watch}
-use Rattle.ob_machine.specs.Exchanges.{Devices, begun, devices}
+use Rattle.ob_machine.specs.Exchanges.{begun}
 use Rattle.ob_machine.specs.Executions.{does}
-use Rattle.ob_machine.specs.Hearing.{Audience}
 use Rattle.ob_machine.proofs.Exchanged.{done_advances}
 use Rattle.ob_machine.proofs.Stepped.{free_advances, load_advances, reads_answer, store_answers, writes_answer}
 use Rattle.ob_machine.proofs.execution.Execution.step.Goals as goal
