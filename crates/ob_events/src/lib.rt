@@ -10,3 +10,5 @@ pub use making::make_word;
 
 mod event;
 mod making;
+#[cfg(test)]
+mod tests;

@@ -8,10 +8,10 @@ use ob_words::{number, word};
 
 /// Takes the next manufactured value, and gives it as the word that a load of this kind gets: that of the
 /// number of its type, and null for a pointer.
-pub fn make_word(maker: &mut Box<dyn Maker>, kind: LoadKind) -> u64
-    ensures word { result ≡ made_word kind (cycle maker.old) (place maker.old) }
-    ensures place { place maker.new ≡ place_after (cycle maker.old) (place maker.old) }
-    ensures cycle { cycle maker.new ≡ cycle maker.old }
+pub fn make_word<M: Maker>(maker: &mut M, kind: LoadKind) -> u64
+    ensures word { result ≡ made_word kind (M.cycle maker.old) (M.place maker.old) }
+    ensures place { M.place maker.new ≡ place_after (M.cycle maker.old) (M.place maker.old) }
+    ensures cycle { M.cycle maker.new ≡ M.cycle maker.old }
 {
     let made = maker.next();
     match kind {

@@ -20,9 +20,6 @@ impl Count {
 }
 
 impl Maker for Count {
-    ghost use Rattle.std.proofs.Common.{sym, subst};
-    ghost use Rattle.ob_maker.specs.Cycles.{count_length};
-
     ghost cycle = { λ _. count_cycle };
 
     ghost place = { λ maker. maker.place };
@@ -34,9 +31,10 @@ impl Maker for Count {
         u64::from(number)
     }
 
+    #[tactic(auto, using(crate::specs::Cycles::count_length))]
+    fn stands(&self) {}
+
     fn restart(&mut self) {
         self.place = 0;
     }
-
-    ghost within = { λ maker. subst (λ n. maker.place < n) (sym count_length) maker.in_cycle };
 }

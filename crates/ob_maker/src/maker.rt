@@ -15,16 +15,12 @@ pub trait Maker: Drop {
         ensures place { place self.new ≡ place_after (cycle self.old) (place self.old) }
         ensures cycle { cycle self.new ≡ cycle self.old };
 
-    /// Does nothing; its clause is the law below, for callers that hold a maker in a box.
+    /// Does nothing; its clause says that the place is one of the cycle, which so is never empty.
     fn stands(&self)
-        ensures { place self.now < length (cycle self.now) }
-    {}
+        ensures { place self.now < length (cycle self.now) };
 
     /// Goes back to the first number.
     fn restart(&mut self)
         ensures place { place self.new ≡ 0 }
         ensures cycle { cycle self.new ≡ cycle self.old };
-
-    /// The place is one of the cycle, which so is never empty.
-    ghost within: { (maker : Self) → place maker < length (cycle maker) };
 }

@@ -21,9 +21,6 @@ impl Small {
 }
 
 impl Maker for Small {
-    ghost use Rattle.std.proofs.Common.{sym, subst};
-    ghost use Rattle.ob_maker.specs.Cycles.{small_length};
-
     ghost cycle = { λ _. small_cycle };
 
     ghost place = { λ maker. maker.place };
@@ -35,11 +32,12 @@ impl Maker for Small {
         number
     }
 
+    #[tactic(auto, using(crate::specs::Cycles::small_length))]
+    fn stands(&self) {}
+
     fn restart(&mut self) {
         self.place = 0;
     }
-
-    ghost within = { λ maker. subst (λ n. maker.place < n) (sym small_length) maker.in_cycle };
 }
 
 /// The number at a place of the cycle.

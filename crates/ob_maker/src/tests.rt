@@ -32,13 +32,18 @@ fn first_numbers(rt: HostRuntime) {
     }
 }
 
+fn next_of<M: Maker>(maker: &mut M) -> u64 {
+    maker.stands();
+    maker.next()
+}
+
 /// Through boxes, as the program holds them.
 #[test]
 fn boxed(rt: HostRuntime) -> Result<(), Fail> {
     let mut small: Box<dyn Maker> = Box::new(rt.alloc(), Small::new())?;
     let mut count: Box<dyn Maker> = Box::new(rt.alloc(), Count::new())?;
     for wanted in [(0, 0), (1, 1), (2, 2), (0, 3)] {
-        assert_eq!(rt; (small.next(), count.next()), wanted);
+        assert_eq!(rt; (next_of(&mut small), next_of(&mut count)), wanted);
     }
     Ok(())
 }

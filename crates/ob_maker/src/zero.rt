@@ -15,8 +15,6 @@ impl Zero {
 }
 
 impl Maker for Zero {
-    ghost use Rattle.std.proofs.Common.{lit<};
-
     ghost cycle = { λ _. zero_cycle };
 
     ghost place = { λ _. 0 };
@@ -25,7 +23,7 @@ impl Maker for Zero {
         0
     }
 
-    fn restart(&mut self) {}
+    fn stands(&self) {}
 
-    ghost within = { λ _. lit< tt };
+    fn restart(&mut self) {}
 }

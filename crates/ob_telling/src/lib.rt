@@ -8,3 +8,5 @@
 pub use telling::tell_each;
 
 mod telling;
+#[cfg(test)]
+mod tests;

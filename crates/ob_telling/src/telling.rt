@@ -1,17 +1,18 @@
-ghost use Rattle.std.specs.Prelude.{◌≡◌, map};
+ghost use Rattle.std.specs.Prelude.{◌≡◌, map, length};
 ghost use Rattle.ob_telling.specs.Telling.{watch_after, watches_after};
 
 use ob_model::StrayEvent;
 use ob_watch::Watcher;
 
-fn tell_one(watcher: &mut Box<dyn Watcher>, e: StrayEvent)
-    ensures { record { capacity = capacity watcher.new; kept = kept watcher.new; total = told watcher.new } ≡ watch_after e (record { capacity = capacity watcher.old; kept = kept watcher.old; total = told watcher.old }) }
+fn tell_one<W: Watcher>(watcher: &mut W, e: StrayEvent)
+    ensures { record { capacity = W.capacity watcher.new; kept = W.kept watcher.new; total = W.told watcher.new } ≡ watch_after e (record { capacity = W.capacity watcher.old; kept = W.kept watcher.old; total = W.told watcher.old }) }
 {
     watcher.tell(e);
 }
 
-fn tell_all(watchers: &mut Vec<Box<dyn Watcher>>, e: StrayEvent)
-    ensures { map (λ w. record { capacity = capacity w; kept = kept w; total = told w }) watchers.new.items ≡ map (watch_after e) (map (λ w. record { capacity = capacity w; kept = kept w; total = told w }) watchers.old.items) }
+fn tell_all<W: Watcher>(watchers: &mut Vec<W>, e: StrayEvent)
+    ensures told { map (λ w. record { capacity = W.capacity w; kept = W.kept w; total = W.told w }) watchers.new.items ≡ map (watch_after e) (map (λ w. record { capacity = W.capacity w; kept = W.kept w; total = W.told w }) watchers.old.items) }
+    ensures length { length watchers.new.items ≡ length watchers.old.items }
 {
     for i in 0..watchers.len() {
         tell_one(&mut watchers[i], e);
@@ -19,8 +20,9 @@ fn tell_all(watchers: &mut Vec<Box<dyn Watcher>>, e: StrayEvent)
 }
 
 /// Tells an event to each watcher once, in order, where there is one.
-pub fn tell_each(watchers: &mut Vec<Box<dyn Watcher>>, e: Option<StrayEvent>)
-    ensures { map (λ w. record { capacity = capacity w; kept = kept w; total = told w }) watchers.new.items ≡ watches_after e (map (λ w. record { capacity = capacity w; kept = kept w; total = told w }) watchers.old.items) }
+pub fn tell_each<W: Watcher>(watchers: &mut Vec<W>, e: Option<StrayEvent>)
+    ensures told { map (λ w. record { capacity = W.capacity w; kept = W.kept w; total = W.told w }) watchers.new.items ≡ watches_after e (map (λ w. record { capacity = W.capacity w; kept = W.kept w; total = W.told w }) watchers.old.items) }
+    ensures length { length watchers.new.items ≡ length watchers.old.items }
 {
     if let Some(e) = e {
         tell_all(watchers, e);

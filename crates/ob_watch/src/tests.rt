@@ -39,16 +39,20 @@ fn counts_alone(rt: HostRuntime) {
     assert_eq!(rt; watcher.kept_at(0), None);
 }
 
+fn tell_two<W: Watcher>(watcher: &mut W) {
+    for line in 7..9u32 {
+        watcher.tell(event(line));
+    }
+}
+
 /// Through boxes, as the program holds them.
 #[test]
 fn boxed(rt: HostRuntime) -> Result<(), Fail> {
     let alloc = rt.alloc();
     let mut first: Box<dyn Watcher> = Box::new(alloc, FirstEvents::new(alloc, 1)?)?;
     let mut counter: Box<dyn Watcher> = Box::new(alloc, Counter::new())?;
-    for line in 7..9u32 {
-        first.tell(event(line));
-        counter.tell(event(line));
-    }
+    tell_two(&mut first);
+    tell_two(&mut counter);
     assert_eq!(rt; first.kept_at(0), Some(event(7)));
     assert_eq!(rt; first.kept_at(1), None);
     assert_eq!(rt; first.total(), counter.total());

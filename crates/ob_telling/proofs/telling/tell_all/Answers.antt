@@ -5,6 +5,10 @@ use Rattle.ob_telling.proofs.telling.tell_all.Goals as goal
 
 pub loop-i-preserved : goal.loop-i-preserved
 loop-i-preserved g c =
-    next_changed
-    (λ w. record { capacity = (goal.Watcher-dyn g (w.vtable, w.value)).capacity w.value; kept = (goal.Watcher-dyn g (w.vtable, w.value)).kept w.value; total = (goal.Watcher-dyn g (w.vtable, w.value)).told w.value })
-    (watch_after c.args.e) c.loop-i.watchers.items c.loop-i.i c.index_mut.result.now c.tell_one.new.watcher _ (search rules) c.index_mut.ensures.value c.tell_one.ensures c.loop-i.invariant
+    record {
+      told =
+          next_changed
+          (λ w. record { capacity = g.W.Watcher.capacity w; kept = g.W.Watcher.kept w; total = g.W.Watcher.told w })
+          (watch_after c.args.e) c.loop-i.watchers.items c.loop-i.i c.index_mut.result.now c.tell_one.new.watcher _ (search rules) c.index_mut.ensures.value c.tell_one.ensures c.loop-i.invariant.told;
+      length = search rules;
+    }
