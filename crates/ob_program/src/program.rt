@@ -27,9 +27,9 @@ fn perform_run<F: Folder, S: Source, K: Sink, M: Maker, W: Watcher>(
     requires fit { IsFit job.now.settings }
     requires steps { job.now.steps ≤ 1000000000 }
     requires named { name.now ≡ job.now.argument }
-    ensures { CameTo (record { job = job.now; supply = record { cycle = cycle maker.old; place = place maker.old }; watchers = map (λ w. record { capacity = capacity w; kept = kept w; total = told w }) watchers.old.items })
-        (map (λ w. record { capacity = capacity w; kept = kept w; total = told w }) watchers.new.items)
-        (λ o. ComesOf first_forms job.now.verb (record { job = job.now; supply = record { cycle = cycle maker.old; place = place maker.old }; watchers = map (λ w. record { capacity = capacity w; kept = kept w; total = told w }) watchers.old.items }) (record { files = F.files folder.old; faults_before = F.faults folder.old; faults_now = F.faults folder.new }) (record { left_before = S.left input.old; left_now = S.left input.new; faults_before = S.faults input.old; faults_now = S.faults input.new }) o)
+    ensures { CameTo (record { job = job.now; supply = record { cycle = M.cycle maker.old; place = M.place maker.old }; watchers = map (λ w. record { capacity = W.capacity w; kept = W.kept w; total = W.told w }) watchers.old.items })
+        (map (λ w. record { capacity = W.capacity w; kept = W.kept w; total = W.told w }) watchers.new.items)
+        (λ o. ComesOf first_forms job.now.verb (record { job = job.now; supply = record { cycle = M.cycle maker.old; place = M.place maker.old }; watchers = map (λ w. record { capacity = W.capacity w; kept = W.kept w; total = W.told w }) watchers.old.items }) (record { files = F.files folder.old; faults_before = F.faults folder.old; faults_now = F.faults folder.new }) (record { left_before = S.left input.old; left_now = S.left input.new; faults_before = S.faults input.old; faults_now = S.faults input.new }) o)
         (IsIdle (record { files = F.files folder.old; faults_before = F.faults folder.old; faults_now = F.faults folder.new }) (record { left_before = S.left input.old; left_now = S.left input.new; faults_before = S.faults input.old; faults_now = S.faults input.new }))
         result
         (record { taken_before = K.taken out.old; taken_now = K.taken out.new; tally_before = K.tally out.old; tally_now = K.tally out.new; faults_before = K.faults out.old; faults_now = K.faults out.new }) }

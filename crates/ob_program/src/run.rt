@@ -52,9 +52,9 @@ fn run_source<K: Sink, M: Maker, W: Watcher>(
     requires fit { IsFit job.now.settings }
     requires steps { job.now.steps ≤ 1000000000 }
     requires short { length bytes.now ≤ 2 ^ 20 }
-    ensures { (input : Reading) → IsUnread input → CameTo (record { job = job.now; supply = record { cycle = cycle maker.old; place = place maker.old }; watchers = map (λ w. record { capacity = capacity w; kept = kept w; total = told w }) watchers.old.items })
-        (map (λ w. record { capacity = capacity w; kept = kept w; total = told w }) watchers.new.items)
-        (Run first_forms (record { job = job.now; supply = record { cycle = cycle maker.old; place = place maker.old }; watchers = map (λ w. record { capacity = capacity w; kept = kept w; total = told w }) watchers.old.items }) bytes.now input)
+    ensures { (input : Reading) → IsUnread input → CameTo (record { job = job.now; supply = record { cycle = M.cycle maker.old; place = M.place maker.old }; watchers = map (λ w. record { capacity = W.capacity w; kept = W.kept w; total = W.told w }) watchers.old.items })
+        (map (λ w. record { capacity = W.capacity w; kept = W.kept w; total = W.told w }) watchers.new.items)
+        (Run first_forms (record { job = job.now; supply = record { cycle = M.cycle maker.old; place = M.place maker.old }; watchers = map (λ w. record { capacity = W.capacity w; kept = W.kept w; total = W.told w }) watchers.old.items }) bytes.now input)
         (IsUnread input)
         result
         (record { taken_before = K.taken out.old; taken_now = K.taken out.new; tally_before = K.tally out.old; tally_now = K.tally out.new; faults_before = K.faults out.old; faults_now = K.faults out.new }) }
@@ -78,9 +78,9 @@ pub(crate) fn run<F: Folder, K: Sink, M: Maker, W: Watcher>(
     requires fit { IsFit job.now.settings }
     requires steps { job.now.steps ≤ 1000000000 }
     requires named { name.now ≡ job.now.argument }
-    ensures { (input : Reading) → IsUnread input → CameTo (record { job = job.now; supply = record { cycle = cycle maker.old; place = place maker.old }; watchers = map (λ w. record { capacity = capacity w; kept = kept w; total = told w }) watchers.old.items })
-        (map (λ w. record { capacity = capacity w; kept = kept w; total = told w }) watchers.new.items)
-        (λ o. OnSource (record { job = job.now; supply = record { cycle = cycle maker.old; place = place maker.old }; watchers = map (λ w. record { capacity = capacity w; kept = kept w; total = told w }) watchers.old.items }) (record { files = F.files folder.old; faults_before = F.faults folder.old; faults_now = F.faults folder.new }) input o (λ source. Run first_forms (record { job = job.now; supply = record { cycle = cycle maker.old; place = place maker.old }; watchers = map (λ w. record { capacity = capacity w; kept = kept w; total = told w }) watchers.old.items }) source input o))
+    ensures { (input : Reading) → IsUnread input → CameTo (record { job = job.now; supply = record { cycle = M.cycle maker.old; place = M.place maker.old }; watchers = map (λ w. record { capacity = W.capacity w; kept = W.kept w; total = W.told w }) watchers.old.items })
+        (map (λ w. record { capacity = W.capacity w; kept = W.kept w; total = W.told w }) watchers.new.items)
+        (λ o. OnSource (record { job = job.now; supply = record { cycle = M.cycle maker.old; place = M.place maker.old }; watchers = map (λ w. record { capacity = W.capacity w; kept = W.kept w; total = W.told w }) watchers.old.items }) (record { files = F.files folder.old; faults_before = F.faults folder.old; faults_now = F.faults folder.new }) input o (λ source. Run first_forms (record { job = job.now; supply = record { cycle = M.cycle maker.old; place = M.place maker.old }; watchers = map (λ w. record { capacity = W.capacity w; kept = W.kept w; total = W.told w }) watchers.old.items }) source input o))
         (IsIdle (record { files = F.files folder.old; faults_before = F.faults folder.old; faults_now = F.faults folder.new }) input)
         result
         (record { taken_before = K.taken out.old; taken_now = K.taken out.new; tally_before = K.tally out.old; tally_now = K.tally out.new; faults_before = K.faults out.old; faults_now = K.faults out.new }) }
