@@ -1,0 +1,13 @@
+ghost use Rattle.ob_statics.specs.Laws.{LaidOutIsStatic, ZeroedIsLaidOut};
+
+/// The space in which an image's run begins: its memory is what laying out the static objects makes of
+/// zero bytes, its objects are the static ones, and it holds nothing else. The next object's number comes
+/// after theirs.
+pub fn law_laid_out()
+    ensures { LaidOutIsStatic }
+{}
+
+/// Zero bytes are laid out in their three ranges.
+pub fn law_zeroed()
+    ensures { ZeroedIsLaidOut }
+{}
