@@ -221,7 +221,6 @@ module _ (u : Setup) (read : FieldIsRead) (others : OtherFieldsAreKept) (layout 
 zeroed_stack : (heap : ℕ) → heap ≤ 67108864 → HasStack (zeroed 0 1048576 heap)
 zeroed_stack heap few =
     record {
-      statics = refl;
       stack = refl;
       laid_out = record {
         statics = lit≤ tt;
