@@ -1,10 +1,10 @@
 -- What a table keeps while a pair enters and while an object's pairs leave.
-use Rattle.std.proofs.Common.{◌≡◌, ◌==◌, ℕ, suc, ◌<◌, ◌⊎◌, Bool, true, false, List, length, get_or, set, [], ◌∷◌, arith, Option, Some, None, ap, ⊎_elim, inl, inr, sym, ◌∙◌, get_or-set_same, get_or-set_other, refl, if◌then◌else◌}
+use Rattle.std.proofs.Common.{◌≡◌, ◌==◌, ℕ, suc, ◌<◌, ◌⊎◌, false, length, set, [], ◌∷◌, arith, Option, Some, None, ap, ⊎_elim, inl, inr, sym, ◌∙◌, get_or-set_same, get_or-set_other, refl, if◌then◌else◌}
 use Rattle.std.proofs.lemmas.Bool.{cases_eq, cases_Bool, both_ways, eq-eqb, ne_eqb, cond-true, cond-false}
 use Rattle.std.proofs.Math.ListN.{get_or-map}
 use Rattle.ob_model.specs.Descriptors.{Pair, Slots, IsInterned, holds, slot_of, pair_in}
 use Rattle.ob_away.specs.Slots.{is_of, without}
-use Rattle.ob_away.specs.Kept.{Index, named, mark_of, free_below, IsIndexed, IsMarked}
+use Rattle.ob_away.specs.Kept.{Index, named, IsIndexed}
 use Rattle.ob_away.proofs.Positions.{none_before}
 use Rattle.ob_away.proofs.Pairs.{within_slots, same_pair-same}
 
@@ -14,9 +14,6 @@ IsInterned-same slots others same interned i j pair at_i at_j = interned i j pai
 
 pub IsIndexed-same : (index : Index) (slots others : Slots) → ((k : ℕ) → pair_in others k ≡ pair_in slots k) → IsIndexed index slots → IsIndexed index others
 IsIndexed-same index slots others same indexed = record { by_slot = λ k pair held. indexed.by_slot k pair (sym (same k) ∙ held) }
-
-pub IsMarked-same : (marks : List Bool) (slots others : Slots) → ((k : ℕ) → pair_in others k ≡ pair_in slots k) → IsMarked marks slots → IsMarked marks others
-IsMarked-same marks slots others same marked k pair held = marked k pair (sym (same k) ∙ held)
 
 -- after a pair was put into slot s, a slot that holds a pair is slot s or held it before
 pub entered : (slots : Slots) (s : ℕ) (pair : Pair) (k : ℕ) (other : Pair) → s < length slots → pair_in (set slots s (Some pair)) k ≡ Some other → ((k ≡ s) × (other ≡ pair)) ⊎ (pair_in slots k ≡ Some other)
@@ -54,17 +51,6 @@ IsIndexed-entered index slots s pair within at_s indexed = record {
       (entered slots s pair k other within held);
 }
 
-pub IsMarked-entered : (marks : List Bool) (slots : Slots) (s : ℕ) (pair : Pair) → s < length slots → mark_of pair.0 < length marks → IsMarked marks slots → IsMarked (set marks (mark_of pair.0) true) (set slots s (Some pair))
-IsMarked-entered marks slots s pair within long marked k other held =
-    ⊎_elim
-    (λ same. ap (λ i. get_or (set marks (mark_of pair.0) true) i false) same ∙ get_or-set_same marks (mark_of pair.0) true false long)
-    (λ apart. get_or-set_other marks (mark_of pair.0) (mark_of other.0) true false apart ∙
-    ⊎_elim
-    (λ here. absurd (apart (ap (λ (p : Pair). mark_of p.0) here.1)))
-    (λ before. marked k other before)
-    (entered slots s pair k other within held))
-    (cases_eq (mark_of other.0) (mark_of pair.0))
-
 -- what a slot holds once an object's slots are freed
 kept_some : (object : ℕ) (slot : Option Pair) (pair : Pair) → (if is_of object slot then None else slot) ≡ Some pair → (slot ≡ Some pair) × (object ≡ pair.0 → ⊥)
 kept_some object None pair is = absurd cc
@@ -77,7 +63,7 @@ kept_some object (Some other) pair is =
     (same, (λ owner. both_ways (object == other.0) foreign (eq-eqb object other.0 (owner ∙ ap (λ (p : Pair). p.0) (sym e))))))
     (cases_Bool (object == other.0))
 
-pair_in-without : (object : ℕ) (slots : Slots) (k : ℕ) → pair_in (without object slots) k ≡ (if is_of object (pair_in slots k) then None else pair_in slots k)
+pub pair_in-without : (object : ℕ) (slots : Slots) (k : ℕ) → pair_in (without object slots) k ≡ (if is_of object (pair_in slots k) then None else pair_in slots k)
 pair_in-without object slots k = get_or-map (λ slot. if is_of object slot then None else slot) slots k None
 
 pub held_without : (object : ℕ) (slots : Slots) (k : ℕ) (pair : Pair) → pair_in (without object slots) k ≡ Some pair → (pair_in slots k ≡ Some pair) × (object ≡ pair.0 → ⊥)
@@ -89,7 +75,7 @@ IsInterned-without object slots interned i j pair at_i at_j = interned i j pair 
 pub IsIndexed-without : (object : ℕ) (index : Index) (slots : Slots) → IsIndexed index slots → IsIndexed index (without object slots)
 IsIndexed-without object index slots indexed = record { by_slot = λ k pair held. indexed.by_slot k pair (held_without object slots k pair held).0 }
 
-without-none : (object : ℕ) (slots : Slots) → ((k : ℕ) (pair : Pair) → pair_in slots k ≡ Some pair → object ≡ pair.0 → ⊥) → without object slots ≡ slots
+pub without-none : (object : ℕ) (slots : Slots) → ((k : ℕ) (pair : Pair) → pair_in slots k ≡ Some pair → object ≡ pair.0 → ⊥) → without object slots ≡ slots
 without-none object [] none = refl
 without-none object (None ∷ slots) none = ap (λ (xs : Slots). None ∷ xs) (without-none object slots (λ k pair held owner. none (suc k) pair held owner))
 without-none object (Some other ∷ slots) none =
@@ -97,36 +83,8 @@ without-none object (Some other ∷ slots) none =
     ap (λ (slot : Option Pair). slot ∷ without object slots) (cond-false (object == other.0) None (Some other) foreign)
     ∙ ap (λ (xs : Slots). Some other ∷ xs) (without-none object slots (λ k pair held owner. none (suc k) pair held owner))
 
--- an object that is not marked has no pair
-pub without-unmarked : (marks : List Bool) (object : ℕ) (slots : Slots) → IsMarked marks slots → get_or marks (mark_of object) false ≡ false → without object slots ≡ slots
-without-unmarked marks object slots marked unmarked =
-    without-none object slots (λ k pair held owner.
-    both_ways (get_or marks (mark_of object) false) unmarked
-    (ap (λ o. get_or marks (mark_of o) false) owner ∙ marked k pair held))
-
--- the object's mark is set anew, to whether a pair stands that shares it
-pub IsMarked-without : (marks : List Bool) (object : ℕ) (slots : Slots) (shared : Bool) → mark_of object < length marks → IsMarked marks slots → (shared ≡ false → (k : ℕ) (pair : Pair) → pair_in (without object slots) k ≡ Some pair → mark_of pair.0 ≡ mark_of object → ⊥) → IsMarked (set marks (mark_of object) shared) (without object slots)
-IsMarked-without marks object slots shared long marked alone k pair held =
-    ⊎_elim
-    (λ same. ap (λ i. get_or (set marks (mark_of object) shared) i false) same ∙ get_or-set_same marks (mark_of object) shared false long ∙
-    ⊎_elim
-    (λ yes. yes)
-    (λ no. absurd (alone no k pair held same))
-    (cases_Bool shared))
-    (λ apart. get_or-set_other marks (mark_of object) (mark_of pair.0) shared false apart ∙ marked k pair (held_without object slots k pair held).0)
-    (cases_eq (mark_of pair.0) (mark_of object))
-
-pub mark_of-below : (object : ℕ) → mark_of object < 65536
-mark_of-below object = omega arith
-
 pub IsInterned-none : (slots : Slots) → slots ≡ [] → IsInterned slots
 IsInterned-none slots none i j pair at_i at_j = absurd (omega (arith, within_slots slots i pair at_i, ap length none))
 
 pub IsIndexed-none : (index : Index) (slots : Slots) → slots ≡ [] → IsIndexed index slots
 IsIndexed-none index slots none = record { by_slot = λ k pair held. absurd (omega (arith, within_slots slots k pair held, ap length none)) }
-
-pub IsMarked-none : (marks : List Bool) (slots : Slots) → slots ≡ [] → IsMarked marks slots
-IsMarked-none marks slots none k pair held = absurd (omega (arith, within_slots slots k pair held, ap length none))
-
-pub free_below-none : (slots : Slots) → slots ≡ [] → free_below slots (length slots) ≡ []
-free_below-none slots none = ap (λ (xs : Slots). free_below xs (length xs)) none

@@ -1,6 +1,7 @@
 pub mod Positions
 pub mod Pairs
 pub mod Names
-pub mod FreeList
+pub mod FreeSlots
 pub mod Vacant
+pub mod Linked
 pub mod Changes

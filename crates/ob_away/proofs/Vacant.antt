@@ -1,14 +1,14 @@
 -- The slots that were ever used: how many hold a pair, and one more of them.
-use Rattle.std.proofs.Common.{◌≡◌, ℕ, zero, suc, ◌-◌, pos, ◌+◌, ◌<◌, ◌≤◌, true, false, cond, length, set, [], ◌∷◌, ◌++◌, arith, Option, Some, None, ap, ⊎_elim, sym, ◌∙◌, length-append, refl}
+use Rattle.std.proofs.Common.{◌≡◌, ℕ, zero, suc, ◌-◌, ◌+◌, ◌<◌, ◌≤◌, true, false, cond, length, set, [], ◌∷◌, ◌++◌, arith, Option, Some, None, ap, ⊎_elim, sym, ◌∙◌, refl}
 use Rattle.std.specs.Prelude.{is_none, is_some, unwrap_or, MatchOption, IfSome, if◌then◌else◌}
 use Rattle.std.proofs.lemmas.Bool.{cases_lt}
-use Rattle.std.proofs.lemmas.List.{get_or_append_left, get_or-append_right, get_or_past, length-set}
-use Rattle.std.proofs.lemmas.List.Sums.{sum_by-cons, sum_by-set, count_by-le-length}
+use Rattle.std.proofs.lemmas.List.{get_or_append_left, get_or-append_right, get_or_past}
+use Rattle.std.proofs.lemmas.List.Sums.{sum_by-cons}
 use Rattle.std.proofs.lemmas.List.Quantifiers.{position-Some}
 use Rattle.std.proofs.Math.Seq.{set-append_seam}
 use Rattle.ob_model.specs.Descriptors.{Pair, Slots, holds, slot_of, pair_in, pair_count, vacant, put_slot, with_pair, free_slot}
-use Rattle.ob_away.specs.Kept.{free_below}
-use Rattle.ob_away.proofs.FreeList.{vacant-empty, free_below-used, free_below-same, pair_in-set_same, pair_in-set_other}
+use Rattle.ob_away.specs.Kept.{Free, IsListed}
+use Rattle.ob_away.proofs.FreeSlots.{free_at, fewer_pairs, IsListed-pushed}
 use Rattle.ob_away.proofs.Positions.{position_none, none_before}
 
 -- no slot is free: each holds a pair
@@ -23,20 +23,14 @@ pair_count-used (Some pair ∷ slots) used =
 pub pair_count-full : (slots : Slots) → vacant slots ≡ None → pair_count slots ≡ length slots
 pair_count-full slots none = pair_count-used slots (none_before is_none slots None none)
 
-free_at : (slot : Option Pair) → is_none slot ≡ true → slot ≡ None
-free_at None free = refl
-free_at (Some pair) free = absurd cc
-
 -- a slot is free: fewer pairs than slots
 pub pair_count-vacant : (slots : Slots) (s : ℕ) → vacant slots ≡ Some s → pair_count slots < length slots
 pair_count-vacant slots s found =
     let facts = position-Some is_none slots s None found in
-    let pair : Pair = (0, pos 0) in
-    let free : pair_in slots s ≡ None = free_at (pair_in slots s) facts.1 in
-    let here : ℕ = cond (is_some (pair_in slots s)) 1 0 in
-    let filled : pair_count (set slots s (Some pair)) + here ≡ pair_count slots + 1 = sum_by-set (λ slot. cond (is_some slot) 1 0) slots s (Some pair) None facts.0 in
-    let none : here ≡ 0 = ap (λ (slot : Option Pair). cond (is_some slot) 1 0) free in
-    omega (arith, filled, none, count_by-le-length is_some (set slots s (Some pair)), length-set slots s (Some pair))
+    fewer_pairs slots s facts.0 facts.1
+
+pub pair_in-vacant : (slots : Slots) (s : ℕ) → vacant slots ≡ Some s → pair_in slots s ≡ None
+pair_in-vacant slots s found = free_at (pair_in slots s) (position-Some is_none slots s None found).1
 
 -- one slot more, which is free, reads as before
 pub pair_in-push : (slots : Slots) (k : ℕ) → pair_in (slots ++ None ∷ []) k ≡ pair_in slots k
@@ -73,15 +67,6 @@ free_slot-vacant slots s found = ap (λ (o : Option ℕ). unwrap_or o (length sl
 pub free_slot-next : (slots : Slots) → vacant slots ≡ None → length slots ≡ free_slot slots
 free_slot-next slots none = ap (λ (o : Option ℕ). unwrap_or o (length slots)) (sym none)
 
-pub free_below-push : (slots : Slots) (pair : Pair) → free_below slots (length slots) ≡ [] → free_below (set (slots ++ None ∷ []) (length slots) (Some pair)) (length (slots ++ None ∷ [])) ≡ []
-free_below-push slots pair used =
-    let long : length (slots ++ None ∷ []) ≡ suc (length slots) = simp length-append (omega arith) in
-    ap (free_below (set (slots ++ None ∷ []) (length slots) (Some pair))) long
-    ∙ free_below-used (set (slots ++ None ∷ []) (length slots) (Some pair)) (length slots) (pair_in-set_same (slots ++ None ∷ []) (length slots) (length slots) pair refl (omega arith))
-    ∙ free_below-same (set (slots ++ None ∷ []) (length slots) (Some pair)) slots (length slots)
-    (λ k less. pair_in-set_other (slots ++ None ∷ []) (length slots) k pair (λ is. omega arith) ∙ get_or_append_left slots (None ∷ []) None k less)
-    ∙ used
-
 -- what one slot more gives where no slot is free
 module _ (limit : ℕ) (slots others : Slots) (none : vacant slots ≡ None) where
   abbrev Extends : Option ℕ → Type 0
@@ -101,12 +86,21 @@ module _ (limit : ℕ) (slots others : Slots) (none : vacant slots ≡ None) whe
       ∙ ap (λ k. set (slots ++ None ∷ []) k (Some pair)) room.0
       ∙ with_pair-next slots pair none
 
-  pub extended-listed : (answer : Option ℕ) → Extends answer → Extended answer → IfSome answer (λ slot. (pair : Pair) → free_below (set others slot (Some pair)) (length others) ≡ [])
-  extended-listed None full same = tt
-  extended-listed (Some slot) room pushed = λ pair.
-      ap (λ (xs : Slots). free_below (set xs slot (Some pair)) (length xs)) pushed
-      ∙ ap (λ k. free_below (set (slots ++ None ∷ []) k (Some pair)) (length (slots ++ None ∷ []))) room.0
-      ∙ free_below-push slots pair (vacant-empty slots none)
+  pub extended-listed : (free : Free) → IsListed free slots → (answer : Option ℕ) → Extends answer → Extended answer → IfSome answer (λ slot. (pair : Pair) → IsListed free (set others slot (Some pair)))
+  extended-listed free listed None full same = tt
+  extended-listed free listed (Some slot) room pushed = λ pair.
+      let put : set others slot (Some pair) ≡ slots ++ Some pair ∷ [] =
+      ap (λ (xs : Slots). set xs slot (Some pair)) pushed
+      ∙ ap (λ k. set (slots ++ None ∷ []) k (Some pair)) room.0
+      ∙ set-append_seam slots None [] (Some pair) in
+      rw put (IsListed-pushed slots free pair listed)
+
+  pub extended-vacant : (answer : Option ℕ) → Extends answer → Extended answer → IfSome answer (λ slot. pair_in others slot ≡ None)
+  extended-vacant None full same = tt
+  extended-vacant (Some slot) room pushed =
+      ap (λ (xs : Slots). pair_in xs slot) pushed
+      ∙ pair_in-push slots slot
+      ∙ get_or_past slots slot None (omega (arith, room.0))
 
 pub IfSome-map : (P Q : ℕ → Type 0) (answer : Option ℕ) → ((s : ℕ) → P s → Q s) → IfSome answer P → IfSome answer Q
 IfSome-map P Q None f p = tt

@@ -1,17 +1,26 @@
-ghost use Rattle.std.specs.Prelude.{◌≡◌, ℕ, ◌<◌, ◌≤◌, ◌^◌, [], ◌∷◌, ◌++◌, length, if◌then◌else◌, Some, None, is_some, MatchOption, IfSome, IfNone, slice_set, vec_capacity};
+ghost use Rattle.std.specs.Prelude.{◌≡◌, ℕ, ◌<◌, ◌≤◌, [], ◌∷◌, ◌++◌, length, if◌then◌else◌, Some, None, is_some, IsSome, MatchOption, IfSome, IfNone, slice_set, vec_capacity};
+ghost use Rattle.std.specs.BinaryHeap.{heap_capacity};
 ghost use Rattle.ob_model.specs.Descriptors.{Pair, pair_count, vacant, free_slot, with_pair, pair_in};
-ghost use Rattle.ob_away.specs.Slots.{without, is_of};
-ghost use Rattle.ob_away.specs.Kept.{free_below};
+ghost use Rattle.ob_away.specs.Kept.{IsListed};
 
-/// The least free one of the slots that were ever used, taken off the list.
-fn reuse(slots: &[Option<(u64, i64)>], free: &mut Vec<u32>) -> Option<u32>
-    requires { free.old.items ≡ free_below slots.now (length slots.now) }
+use std::cmp::Reverse;
+use std::collections::BinaryHeap;
+
+/// The free ones of the slots that were ever used, the least one on top.
+pub(crate) type Free = BinaryHeap<Reverse<u32>>;
+
+/// The least free one of the slots that were ever used, taken off the heap.
+fn reuse(slots: &[Option<(u64, i64)>], free: &mut Free) -> Option<u32>
+    requires { IsListed free.old slots.now }
     ensures slot { result ≡ vacant slots.now }
-    ensures others { IfSome result (λ slot. (pair : Pair) → free.new.items ≡ free_below (slice_set slots.now slot (Some pair)) (length slots.now)) }
-    ensures none { IfNone result (free.new.items ≡ []) }
-    ensures capacity { vec_capacity free.new ≡ vec_capacity free.old }
+    ensures others { IfSome result (λ slot. (pair : Pair) → IsListed free.new (slice_set slots.now slot (Some pair))) }
+    ensures none { IfNone result (IsListed free.new slots.now) }
+    ensures capacity { heap_capacity free.new ≡ heap_capacity free.old }
 {
-    free.pop()
+    match free.pop() {
+        Some(Reverse(slot)) => Some(slot),
+        None => None,
+    }
 }
 
 /// One slot more, which is free, where the limit leaves room.
@@ -30,15 +39,11 @@ fn extend(limit: u32, slots: &mut Vec<Option<(u64, i64)>>) -> Option<u32>
     Some(slot as u32)
 }
 
-/// The least free slot, taken off the list; `None` where as many slots as the limit are used.
-pub(crate) fn claim(
-    limit: u32,
-    slots: &mut Vec<Option<(u64, i64)>>,
-    free: &mut Vec<u32>,
-) -> Option<u32>
+/// The least free slot, taken off the heap; `None` where as many slots as the limit are used.
+pub(crate) fn claim(limit: u32, slots: &mut Vec<Option<(u64, i64)>>, free: &mut Free) -> Option<u32>
     requires within { length slots.old.items ≤ limit }
     requires fit { limit ≤ vec_capacity slots.old }
-    requires listed { free.old.items ≡ free_below slots.old.items (length slots.old.items) }
+    requires listed { IsListed free.old slots.old.items }
     ensures count { MatchOption result (limit ≤ pair_count slots.old.items) (λ slot. pair_count slots.old.items < limit) }
     ensures slot { IfSome result (λ slot. slot ≡ free_slot slots.old.items) }
     ensures put { IfSome result (λ slot. (pair : Pair) → slice_set slots.new.items slot (Some pair) ≡ with_pair pair slots.old.items) }
@@ -47,9 +52,10 @@ pub(crate) fn claim(
     ensures within { length slots.new.items ≤ limit }
     ensures fit { limit ≤ vec_capacity slots.new }
     ensures inside { IfSome result (λ slot. slot < length slots.new.items) }
-    ensures listed { IfSome result (λ slot. (pair : Pair) → free.new.items ≡ free_below (slice_set slots.new.items slot (Some pair)) (length slots.new.items)) }
-    ensures unlisted { IfNone result (free.new.items ≡ free_below slots.old.items (length slots.old.items)) }
-    ensures capacity { vec_capacity free.new ≡ vec_capacity free.old }
+    ensures vacant { IfSome result (λ slot. pair_in slots.new.items slot ≡ None) }
+    ensures listed { IfSome result (λ slot. (pair : Pair) → IsListed free.new (slice_set slots.new.items slot (Some pair))) }
+    ensures unlisted { IfNone result (IsListed free.new slots.old.items) }
+    ensures capacity { heap_capacity free.new ≡ heap_capacity free.old }
 {
     if let Some(slot) = reuse(slots, free) {
         return Some(slot);
@@ -57,44 +63,16 @@ pub(crate) fn claim(
     extend(limit, slots)
 }
 
-/// What a slot holds once the slots of `object` are freed.
-fn kept(slot: Option<(u64, i64)>, object: u64) -> Option<(u64, i64)>
-    ensures { result ≡ (if is_of object slot then None else slot) }
-{
-    match slot {
-        Some((owner, _)) if owner == object => None,
-        _ => slot,
-    }
-}
-
-/// Frees the slots of `object`.
-fn free_each(slots: &mut [Option<(u64, i64)>], object: u64)
-    ensures { slots.new ≡ without object slots.old }
-{
-    for slot in slots.iter_mut() {
-        *slot = kept(*slot, object);
-    }
-}
-
-/// Frees the slots of `object`.
-pub(crate) fn free_slots_of(slots: &mut Vec<Option<(u64, i64)>>, object: u64)
-    ensures slots { slots.new.items ≡ without object slots.old.items }
+/// Frees a slot that holds a pair.
+pub(crate) fn free_slot(slots: &mut Vec<Option<(u64, i64)>>, free: &mut Free, slot: u32)
+    requires listed { IsListed free.old slots.old.items }
+    requires used { IsSome (pair_in slots.old.items slot) }
+    requires fit { length slots.old.items ≤ heap_capacity free.old }
+    ensures slots { slots.new.items ≡ slice_set slots.old.items slot None }
+    ensures listed { IsListed free.new slots.new.items }
+    ensures fit { heap_capacity free.old ≤ heap_capacity free.new }
     ensures capacity { vec_capacity slots.new ≡ vec_capacity slots.old }
 {
-    free_each(slots.as_mut_slice(), object);
-}
-
-/// Lists the free slots anew.
-pub(crate) fn list_free(slots: &[Option<(u64, i64)>], free: &mut Vec<u32>)
-    requires count { length slots.now < 2 ^ 32 }
-    requires fit { length slots.now ≤ vec_capacity free.old }
-    ensures listed { free.new.items ≡ free_below slots.now (length slots.now) }
-    ensures capacity { vec_capacity free.old ≤ vec_capacity free.new }
-{
-    free.clear();
-    for slot in (0..slots.len()).rev() {
-        if slots[slot].is_none() {
-            let _ = free.push(slot as u32);
-        }
-    }
+    slots[slot as usize] = None;
+    let _ = free.push(Reverse(slot));
 }

@@ -3,12 +3,12 @@ ghost use Rattle.ob_model.specs.Descriptors.{IsInterned, slot_of, pair_count, na
 ghost use Rattle.ob_away.specs.Slots.{Descriptors, without};
 ghost use Rattle.ob_away.specs.Enters.{Enters};
 
-use crate::free::{claim, free_slots_of, list_free};
+use crate::chains::{Heads, free_chain, head, link};
+use crate::free::{Free, claim};
 use crate::index::{Index, find, note};
-use crate::marks::{MARKS, is_shared, mark, set_mark};
 use ob_base::NoMemory;
 use std::alloc::Global;
-use std::collections::HashMap;
+use std::collections::{BinaryHeap, HashMap};
 use std::marker::Model;
 
 /// The answer of `AwayTable::word_for` where as many other pairs stand as the table takes.
@@ -22,9 +22,10 @@ pub struct Full;
 pub struct AwayTable {
     limit: u32,
     slots: Vec<Option<(u64, i64)>>,
-    free: Vec<u32>,
+    free: Free,
     index: Index,
-    marks: Vec<bool>,
+    heads: Heads,
+    next: Vec<Option<u32>>,
 }
 
 impl Model for AwayTable {
@@ -35,7 +36,7 @@ impl Model for AwayTable {
 
     ghost view = { λ t. record { limit = t.limit; slots = t.slots.items } };
 
-    ghost invariant = { λ t. IsKept t.limit t.slots t.free t.index t.marks.items };
+    ghost invariant = { λ t. IsKept t.limit t.slots t.free t.index t.heads t.next.items };
 }
 
 /// The word of slot 0; the slots' words are 16 apart.
@@ -58,9 +59,10 @@ impl AwayTable {
         Ok(AwayTable {
             limit,
             slots: Vec::with_capacity(alloc, room)?,
-            free: Vec::with_capacity(alloc, room)?,
+            free: BinaryHeap::with_capacity(alloc, room)?,
             index: HashMap::with_capacity(alloc, 2 * room + 1)?,
-            marks: vec![in alloc; false; MARKS as usize]?,
+            heads: HashMap::with_capacity(alloc, 2 * room + 1)?,
+            next: vec![in alloc; None; room]?,
         })
     }
 
@@ -82,9 +84,10 @@ impl AwayTable {
         let Some(slot) = claim(self.limit, &mut self.slots, &mut self.free) else {
             return Err(Full);
         };
-        note(&mut self.index, self.slots.as_slice(), pair, slot);
+        let slots = self.slots.as_slice();
+        note(&mut self.index, slots, pair, slot);
+        link(&mut self.heads, &mut self.next, slots, pair.0, slot);
         self.slots[slot as usize] = Some(pair);
-        set_mark(&mut self.marks, pair.0, true);
         Ok(word_of(slot))
     }
 
@@ -124,13 +127,14 @@ impl AwayTable {
     pub fn forget(&mut self, object: u64)
         ensures { self.new ≡ record self.old { slots = without object self.old.slots } }
     {
-        if !mark(self.marks.as_slice(), object) {
-            return;
-        }
-        free_slots_of(&mut self.slots, object);
-        list_free(self.slots.as_slice(), &mut self.free);
-        let shared = is_shared(self.slots.as_slice(), object);
-        set_mark(&mut self.marks, object, shared);
+        let first = head(&self.heads, object);
+        free_chain(
+            &mut self.slots,
+            &mut self.free,
+            self.next.as_slice(),
+            first,
+            object,
+        );
     }
 
     /// Frees every slot, which gives the state that `new` gave, in the memory that the table has.

@@ -1,3 +1,5 @@
+ghost use Rattle.std.specs.Prelude.{◌<◌};
+
 use super::{AwayTable, Full};
 use std::process::Abort;
 use std::test::Fail;
@@ -113,5 +115,62 @@ fn pairs_that_come_and_go(rt: HostRuntime) -> Result<(), Fail> {
         answers(&rt, &mut table, Forget(16 + far));
         answers(&rt, &mut table, Read(0x100_0000_0010, None));
     }
+    Ok(())
+}
+
+/// The pair that stands in slot `k` of a table in which a hundred objects have three pairs each.
+fn pair_of(k: u64) -> (u64, i64)
+    requires { k < 300 }
+{
+    (16 * (k % 100), (k / 100) as i64)
+}
+
+/// The word of slot `k`.
+fn word(k: u64) -> u64
+    requires { k < 300 }
+{
+    0x100_0000_0000 + 16 * k
+}
+
+/// A hundred objects with three pairs each, none of them side by side: one is forgotten, the others keep
+/// theirs, and new pairs take the least one of its slots first.
+#[test]
+fn many_objects(rt: HostRuntime) -> Result<(), Fail> {
+    let mut table = AwayTable::new(rt.alloc(), 300)?;
+    for k in 0..300 {
+        let (object, offset) = pair_of(k);
+        answers(&rt, &mut table, WordFor(object, offset, Ok(word(k))));
+    }
+    table.forget(16 * 37);
+    for k in 0..300 {
+        let pair = if k % 100 == 37 {
+            None
+        } else {
+            Some(pair_of(k))
+        };
+        answers(&rt, &mut table, Read(word(k), pair));
+    }
+    for k in [37, 137, 237] {
+        answers(&rt, &mut table, WordFor(7, k as i64, Ok(word(k))));
+    }
+    answers(&rt, &mut table, WordFor(7, 0, Err(Full)));
+    Ok(())
+}
+
+/// Many objects come and go beside one that stays.
+#[test]
+fn objects_that_come_and_go(rt: HostRuntime) -> Result<(), Fail> {
+    let mut table = AwayTable::new(rt.alloc(), 3)?;
+    answers(&rt, &mut table, WordFor(8, -1, Ok(0x100_0000_0000)));
+    for object in 100..1100 {
+        answers(&rt, &mut table, WordFor(object, 0, Ok(0x100_0000_0010)));
+        answers(&rt, &mut table, WordFor(object, 1, Ok(0x100_0000_0020)));
+        answers(&rt, &mut table, Forget(object));
+        answers(&rt, &mut table, Read(0x100_0000_0010, None));
+        answers(&rt, &mut table, Read(0x100_0000_0020, None));
+    }
+    answers(&rt, &mut table, WordFor(8, -1, Ok(0x100_0000_0000)));
+    answers(&rt, &mut table, Forget(8));
+    answers(&rt, &mut table, Read(0x100_0000_0000, None));
     Ok(())
 }

@@ -129,7 +129,7 @@ apart_second : (address n base : ℕ) → (address + n ≤ base) ⊎ (base + 16 
 apart_second address n base (inl h) = inl (omega arith)
 apart_second address n base (inr h) = inr (omega arith)
 
-in_stack : (m : Memory) (address n : ℕ) → HasStack m → 16777216 ≤ address → address + n ≤ 17825792 → IsIn m address n
+pub in_stack : (m : Memory) (address n : ℕ) → HasStack m → 16777216 ≤ address → address + n ≤ 17825792 → IsIn m address n
 in_stack m address n stack low high = inr (inl (record { begins = low; ends = omega (arith, stack.stack) }))
 
 pub links_apart : (functions : List FunctionRow) (old new : Memory) (calls : List Call) (address n : ℕ) → AllRun functions → AreStacked functions calls → allowances functions calls ≤ 1048576 → HasStack old → MeetsNoLink calls address n → KeepsOthers old new address n → AllHaveLinks old calls → AllHaveLinks new calls

@@ -29,7 +29,7 @@ pub kept_once_entered : KeptOnceEntered
 kept_once_entered entered before after m kept inner c outer is longer =
     kept (entered ++ inner) c outer (ap (λ (cs : List Call). entered ++ cs) is ∙ sym (append_assoc entered inner (c ∷ outer))) longer
 
-tail_of : List Call → List Call
+abbrev tail_of : List Call → List Call
 tail_of [] = []
 tail_of (c ∷ cs) = cs
 

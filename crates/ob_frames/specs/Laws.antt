@@ -1,10 +1,12 @@
 -- Laws above the definitions.
-use Rattle.std.specs.Prelude.{◌≡◌, ℕ, ◌+◌, ◌<◌, ◌≤◌, ◌⊎◌, List, [], ◌∷◌, ◌++◌, length, map, Some}
+use Rattle.std.specs.Prelude.{◌≡◌, ℕ, ◌+◌, ◌-◌, ◌<◌, ◌≤◌, ◌⊎◌, List, [], ◌∷◌, ◌++◌, length, map, Some}
+use Rattle.ob_words.specs.Words.{block}
 use Rattle.ob_model.specs.Limits.{heap_start, statics_start}
 use Rattle.ob_flat.specs.Memory.{Memory, IsIn, IsWithin}
 use Rattle.ob_code.specs.declared.image.FunctionRow.{FunctionRow}
 use Rattle.ob_code.specs.Frames.{entered, frame_word, function_at, local_end, with_word}
-use Rattle.ob_code.specs.Rules.{local_at}
+use Rattle.ob_code.specs.Layout.{static_base}
+use Rattle.ob_code.specs.Rules.{HasStatic, local_at, static_at}
 use Rattle.ob_code.specs.State.{Call, Space}
 use Rattle.ob_frames.specs.Examples as examples
 use Rattle.ob_frames.specs.Framed.{Framed}
@@ -68,7 +70,7 @@ LocalsMeetNoLink =
     IsInLocal f.functions c row address n →
     MeetsNoLink f.calls address n
 
--- neither do the bytes of static objects and of the heap
+-- the bytes of static objects and of the heap meet no link word
 abbrev pub OthersMeetNoLink : Type 0
 OthersMeetNoLink =
     (f : Framed) (address n : ℕ) →
@@ -76,10 +78,20 @@ OthersMeetNoLink =
     IsWithin statics_start f.memory.statics address n ⊎ IsWithin heap_start f.memory.heap address n →
     MeetsNoLink f.calls address n
 
+-- the bytes of a static object's block lie among those of all static objects
+abbrev pub StaticsLieInMemory : Type 0
+StaticsLieInMemory =
+    (f : Framed) (number address n : ℕ) →
+    IsFramed f →
+    HasStatic f.statics number →
+    static_base f.statics number ≤ address →
+    address + n ≤ static_base f.statics number + block (static_at f.statics (number - 1)).size →
+    IsWithin statics_start f.memory.statics address n
+
 -- ---- links through several changes
 
--- what keeps the links of some calls keeps those of the calls around them; and what is left later than some calls were left,
--- or not at all, was in progress before them as well
+-- a change after calls were entered keeps the links of the calls around those; a change after calls were left, which enters no
+-- more than it leaves, keeps the links of all earlier calls that are still in progress
 abbrev pub KeptOnceEntered : Type 0
 KeptOnceEntered =
     (entered before after : List Call) (m : Memory) →

@@ -6,6 +6,7 @@ ghost use Rattle.ob_code.specs.Accesses.{read_memory, write_memory};
 ghost use Rattle.ob_code.specs.Frames.{function_at};
 ghost use Rattle.ob_code.specs.Layout.{static_base};
 ghost use Rattle.ob_code.specs.Rules.{HasStatic, static_at};
+ghost use Rattle.ob_statics.specs.Held.{KeepsRanges};
 ghost use Rattle.ob_frames.specs.Framed.{framed, cleared, local_base, top_local, top_locals, top_words, word_at, Enters, HasNoCall, IsRefused, IsTop, Leaves};
 ghost use Rattle.ob_frames.specs.Kept.{IsFramed};
 ghost use Rattle.ob_frames.specs.Links.{LinksAreKept, MeetsNoLink};
@@ -82,7 +83,8 @@ impl Frames {
     /// where there is too little.
     pub fn new(alloc: Global, v: &Verified, heap: u64) -> Result<Frames, NoMemory>
         requires heap { heap ≤ most_heap_bytes }
-        ensures { IfOk result (λ frames. frames ≡ framed v.now heap) }
+        ensures value { IfOk result (λ frames. frames ≡ framed v.now heap) }
+        ensures heap { IfOk result (λ frames. frames.memory.heap ≡ heap) }
     {
         let image = v.image();
         let functions = copy_rows(alloc, image.functions.as_slice())?;
@@ -103,6 +105,7 @@ impl Frames {
     /// Makes the memory what `new` made it. No call is in progress then. Takes no memory.
     pub fn clear(&mut self)
         ensures memory { self.new ≡ cleared self.old }
+        ensures heap { self.new.memory.heap ≡ self.old.memory.heap }
         ensures links { LinksAreKept self.old.calls self.new.calls self.new.memory }
     {
         self.flat.clear();
@@ -269,6 +272,7 @@ impl Frames {
         requires aligned { address % bytes_of_kind kind ≡ 0 }
         requires apart { MeetsNoLink self.old.calls (address - address % 8) 8 }
         ensures memory { self.new ≡ record self.old { memory = write_memory kind self.old.memory address w } }
+        ensures ranges { KeepsRanges self.old.memory self.new.memory }
         ensures links { LinksAreKept self.old.calls self.new.calls self.new.memory }
     {
         write_granule(&mut self.flat, kind, address, w);

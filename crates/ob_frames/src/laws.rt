@@ -1,6 +1,6 @@
 //! What holds of the definitions alone. Each law is the contract of a function that does nothing.
 
-ghost use Rattle.ob_frames.specs.Laws.{LeaveGivesItsLink, FramesLieInARow, LinksLieFirst, OldBytesAreGone, LocalsLieInMemory, LocalsMeetNoLink, OthersMeetNoLink, KeptOnceEntered, KeptOnceLeft};
+ghost use Rattle.ob_frames.specs.Laws.{LeaveGivesItsLink, FramesLieInARow, LinksLieFirst, OldBytesAreGone, LocalsLieInMemory, LocalsMeetNoLink, OthersMeetNoLink, StaticsLieInMemory, KeptOnceEntered, KeptOnceLeft};
 
 /// In the definition, leaving a call gives the place that entering it was given, whatever words were
 /// written and whatever other calls came and went. This speaks of the definition's list of calls, which
@@ -19,12 +19,13 @@ pub fn law_frames()
     ensures zeros { OldBytesAreGone }
 {}
 
-/// The bytes of a local object of a call in progress lie in memory. They meet no link word of any call in
-/// progress, and neither do bytes of static objects and of the heap.
+/// The bytes of a local object of a call in progress, and those of a static object, lie in memory. They
+/// meet no link word of any call in progress, and neither do bytes of the heap.
 pub fn law_objects()
     ensures locals_lie { LocalsLieInMemory }
     ensures locals_meet { LocalsMeetNoLink }
     ensures others_meet { OthersMeetNoLink }
+    ensures statics_lie { StaticsLieInMemory }
 {}
 
 /// What keeps the links of some calls, and happens after others were entered or left, keeps the links of

@@ -16,4 +16,6 @@ mod frames;
 pub mod laws;
 mod opening;
 mod rows;
+#[cfg(test)]
+mod tests;
 mod writing;

@@ -1,5 +1,10 @@
-ghost use Rattle.std.specs.Prelude.{◌≡◌, ◌<◌, ◌^◌};
-ghost use Rattle.ob_model.specs.Heap.{place_for};
+ghost use Rattle.std.specs.Prelude.{◌≡◌, ◌==◌, ◌<◌, ◌^◌, false};
+ghost use Rattle.std.specs.List.{Contains};
+ghost use Rattle.ob_model.specs.declared.objects.Sort.TheVariants.{Heap};
+ghost use Rattle.ob_model.specs.Bounded.{surviving_cells};
+ghost use Rattle.ob_model.specs.Descriptors.{surviving_pairs};
+ghost use Rattle.ob_model.specs.Entries.{surviving_known, with_freed};
+ghost use Rattle.ob_model.specs.Heap.{place_for, surviving_blocks};
 ghost use Rattle.ob_model.specs.Objects.{frees};
 ghost use Rattle.ob_code.specs.Allocation.{freeing};
 ghost use Rattle.ob_pointers.specs.Pointing.{target_in};
@@ -7,7 +12,7 @@ ghost use Rattle.ob_lifetimes.specs.Living.{Allocates, Frees, as_freeing, pointi
 
 use crate::{Freed, Lifetimes};
 use ob_access::Pointee;
-use ob_model::{Entry, Profile, Sort};
+use ob_model::{Entry, Profile, Sort, law_first_fit, law_heap_blocks};
 
 /// Where the heap begins.
 const HEAP_START: u64 = 0x0200_0000;
@@ -26,8 +31,11 @@ impl Lifetimes {
     pub fn allocate(&mut self, n: u128) -> Option<u64>
         requires { self.old.next < 2 ^ 63 }
         ensures place { result ≡ place_for self.old.blocks self.old.heap n }
-        ensures { Allocates n self.old result self.new }
+        ensures made { Allocates n self.old result self.new }
     {
+        law_first_fit();
+        law_heap_blocks();
+        self.pointers.stands();
         let place = self.shelf.take(n)?;
         let object = self.next;
         self.next += 1;
@@ -41,20 +49,35 @@ impl Lifetimes {
     }
 
     // An object of the heap dies.
-    fn end_block(&mut self, entry: &Entry) {
+    fn end_block(&mut self, entry: &Entry)
+        requires heap { entry.now.sort ≡ Heap }
+        requires known { Contains self.old.entries (record { entry = entry.now; freed = false }) }
+        ensures { self.new ≡ record self.old { entries = surviving_known (λ other. other == entry.now.object) self.old.entries; slots = surviving_pairs (λ other. other == entry.now.object) self.old.slots; blocks = surviving_blocks (λ other. other == entry.now.object) self.old.blocks; outside = surviving_cells (λ other. other == entry.now.object) self.old.outside } }
+    {
+        law_heap_blocks();
+        self.pointers.stands();
         self.pointers.die(entry.base, entry.object);
         self.shelf.give(entry.base - HEAP_START);
         self.outside.forget(entry.object);
     }
 
     // An object of the heap is freed, and stays known.
-    fn keep_freed(&mut self, entry: &Entry) {
+    fn keep_freed(&mut self, entry: &Entry)
+        requires heap { entry.now.sort ≡ Heap }
+        requires known { Contains self.old.entries (record { entry = entry.now; freed = false }) }
+        ensures { self.new ≡ record self.old { entries = with_freed entry.now.object self.old.entries; outside = surviving_cells (λ other. other == entry.now.object) self.old.outside } }
+    {
+        self.pointers.stands();
         self.pointers.free(entry.base, entry.object);
         self.outside.forget(entry.object);
     }
 
     // A live object of the heap is freed, as the profile has it.
-    fn release(&mut self, entry: &Entry) {
+    fn release(&mut self, entry: &Entry)
+        requires heap { entry.now.sort ≡ Heap }
+        requires known { Contains self.old.entries (record { entry = entry.now; freed = false }) }
+        ensures { Frees self.old (Freed.Own entry.now.object) self.new }
+    {
         match self.profile {
             Profile::One => self.end_block(entry),
             Profile::Two => self.keep_freed(entry),

@@ -5,7 +5,7 @@
 //! granules outside of objects, on ob_code, ob_model and ob_standing for the definition, and on ob_base for
 //! `NoMemory`. After `new` only `store_outside` takes memory.
 //!
-//! To be believed: `specs/Living`, over the definitions of ob_code and ob_model.
+//! To be believed: `specs/Living`, over the definitions of ob_code and ob_model. `specs/Kept` serves the proof.
 #![tactic(auto)]
 
 pub use lifetimes::{Freed, Lifetimes};

@@ -55,7 +55,7 @@ impl Model for Lifetimes {
 
     ghost view = { λ l. living_in l.pointers l.shelf l.outside l.profile l.most_statics l.statics l.locals l.next };
 
-    ghost invariant = { λ l. IsKept l.pointers l.shelf l.outside l.profile l.most_statics l.statics l.locals l.next };
+    ghost invariant = { λ l. IsKept l.pointers l.shelf l.outside l.most_statics l.statics l.locals l.next };
 }
 
 impl Lifetimes {
@@ -95,7 +95,9 @@ impl Lifetimes {
     /// Does nothing; its clause says what holds of the objects at any time.
     pub fn stands(&self)
         ensures { IsSound self.now }
-    {}
+    {
+        self.pointers.stands();
+    }
 
     /// The number of the next object, from 1.
     pub fn next(&self) -> u64
@@ -114,6 +116,7 @@ impl Lifetimes {
         requires next { self.old.next < 2 ^ 63 }
         ensures { self.new ≡ record self.old { statics = self.old.statics + 1; entries = with_live (record { base = base; size = size; object = self.old.next; sort = Static }) self.old.entries; next = self.old.next + 1 } }
     {
+        self.pointers.stands();
         let object = self.next;
         self.statics += 1;
         self.next += 1;

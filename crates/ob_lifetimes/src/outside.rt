@@ -21,7 +21,13 @@ impl Lifetimes {
 
     /// Stores a word at an offset outside of a live object's own granules, as `Outside::store`. `NoMemory` comes
     /// only where the granule isn't listed, and changes nothing.
-    pub fn store_outside(&mut self, kind: LoadKind, object: u64, offset: i64, w: u64) -> Result<(), NoMemory>
+    pub fn store_outside(
+        &mut self,
+        kind: LoadKind,
+        object: u64,
+        offset: i64,
+        w: u64,
+    ) -> Result<(), NoMemory>
         requires aligned { is_aligned offset (bytes_of_kind kind) ≡ true }
         requires live { IsLive object self.old.entries }
         ensures stored { OnOk result (self.new ≡ record self.old { outside = after_store self.old.cap object (granule offset) (write_cell kind offset w (unwrap_or (listed_cell object (granule offset) self.old.outside) unset)) self.old.outside }) }

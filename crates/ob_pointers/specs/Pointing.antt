@@ -1,15 +1,16 @@
 -- The objects that a machine knows, live ones and freed ones, and the slots of pointers out of bounds: all that the meaning of
 -- a word rests on.
-use Rattle.std.specs.Prelude.{◌≡◌, ◌≢◌, ℕ, ◌+◌, ◌*◌, ◌<◌, ◌≤◌, ◌^◌, ◌%◌, Bool, ℤ, List, Option, Some, None, Result, Ok, Err}
+use Rattle.std.specs.Prelude.{◌≡◌, ◌≢◌, ℕ, ◌+◌, ◌<◌, ◌≤◌, ◌^◌, ◌%◌, ℤ, List, Result, Ok, Err}
 use Rattle.std.specs.List.{All, AllPairs, Contains}
 use Rattle.ob_model.specs.declared.objects.Entry.{Entry}
 use Rattle.ob_model.specs.declared.values.Value.{Value}
-use Rattle.ob_model.specs.Descriptors.{Slots, named_pair, pair_in}
+use Rattle.ob_model.specs.Descriptors.{Slots, named_pair}
 use Rattle.ob_model.specs.Entries.{Known, known_at}
 use Rattle.ob_model.specs.Limits.{heap_start}
 use Rattle.ob_code.specs.Pointers as pointers
 use Rattle.ob_code.specs.Pointers.{Target, by_address, by_slot, pointer_of, Shifted, shift}
 use Rattle.ob_code.specs.State.{Space}
+use Rattle.ob_access.specs.declared.pointee.Pointee.{Pointee}
 use Rattle.ob_pointers.specs.declared.pointers.ShiftAnswer.{ShiftAnswer}
 use Rattle.ob_pointers.specs.declared.pointers.ShiftAnswer.TheVariants.{Full, Far}
 
@@ -53,17 +54,21 @@ HaveTwoNumbers k l = k.entry.object ≢ l.entry.object
 abbrev pub IsHeapPlace : ℕ → Entry → Type 0
 IsHeapPlace heap e = heap_start ≤ e.base → (e.base % 16 ≡ 0) × (e.base < heap_start + heap)
 
--- what holds of the objects and slots at any time: the objects are in order of their bases and meet nowhere, each has a number
--- of its own, and each slot's pair is of an object that is known
+-- what holds of the objects at any time: they are in order of their bases and meet nowhere, each has a number of its own, and
+-- each ends below 2 ^ 63
 pub record IsSound (p : Pointing) : Type 0 where
   pub in_order : AllPairs EndsBefore p.entries
   pub numbers : AllPairs HaveTwoNumbers p.entries
   pub near : All (λ k. k.entry.base + k.entry.size < 2 ^ 63) p.entries
   pub heap : All (λ k. IsHeapPlace p.heap k.entry) p.entries
 
+-- what a pointer points into is known
+abbrev pub IsKnownPointee : List Known → Pointee → Type 0
+IsKnownPointee entries p = Contains entries (record { entry = p.entry; freed = p.freed })
+
 -- an object that is known begins here and has this number
 pub record IsAt (base object : ℕ) (p : Pointing) : Type 0 where
   pub k : Known
   pub known : Contains p.entries k
-  pub base : k.entry.base ≡ base
+  pub there : k.entry.base ≡ base
   pub number : k.entry.object ≡ object

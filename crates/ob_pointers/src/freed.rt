@@ -1,5 +1,5 @@
-ghost use Rattle.std.specs.Prelude.{◌≡◌, ◌≤◌, ◌<◌, length, false, true, slice_set, replicate, IfOk};
-ghost use Rattle.ob_pointers.specs.Kept.{is_marked, mark_index};
+ghost use Rattle.std.specs.Prelude.{◌≡◌, ◌≤◌, ◌+◌, ◌/◌, false, replicate, IfOk};
+ghost use Rattle.ob_pointers.specs.Kept.{is_marked, with_mark};
 
 use ob_base::NoMemory;
 use std::alloc::Global;
@@ -8,7 +8,7 @@ use std::alloc::Global;
 const HEAP_START: u64 = 0x0200_0000;
 
 /// A mark for each multiple of 16 of the heap: whether the object that begins there was freed.
-pub fn no_marks(alloc: Global, heap: u64) -> Result<Vec<bool>, NoMemory>
+pub(crate) fn no_marks(alloc: Global, heap: u64) -> Result<Vec<bool>, NoMemory>
     requires { heap ≤ 67108864 }
     ensures { IfOk result (λ marks. marks.items ≡ replicate (heap / 16 + 1) false) }
 {
@@ -16,7 +16,7 @@ pub fn no_marks(alloc: Global, heap: u64) -> Result<Vec<bool>, NoMemory>
 }
 
 /// Whether the object that begins at `base` was freed.
-pub fn is_marked(marks: &[bool], base: u64) -> bool
+pub(crate) fn is_marked(marks: &[bool], base: u64) -> bool
     ensures { result ≡ is_marked marks.now base }
 {
     if base < HEAP_START {
@@ -29,8 +29,8 @@ pub fn is_marked(marks: &[bool], base: u64) -> bool
 }
 
 /// Says whether the object that begins at `base` was freed; nothing changes outside of the heap.
-pub fn set_mark(marks: &mut [bool], base: u64, freed: bool)
-    ensures { marks.new ≡ with_mark marks.old base freed }
+pub(crate) fn set_mark(marks: &mut Vec<bool>, base: u64, freed: bool)
+    ensures { marks.new.items ≡ with_mark marks.old.items base freed }
 {
     if base < HEAP_START {
         return;

@@ -6,10 +6,13 @@
 //! comparisons, on ob_code and ob_model for the definition, and on ob_base for `NoMemory`. After `new` it
 //! takes no memory.
 //!
-//! To be believed: `specs/Pointing`, over the definitions of ob_code. `specs/Kept` serves the proof.
+//! To be believed: `specs/Pointing`, over the definitions of ob_code. `specs/Kept` and `specs/Placing` serve the proof.
 #![tactic(auto)]
 
 pub use pointers::{Pointers, ShiftAnswer};
 
 mod freed;
+mod named;
 mod pointers;
+#[cfg(test)]
+mod tests;

@@ -1,18 +1,24 @@
-ghost use Rattle.std.specs.Prelude.{◌≡◌, ◌≢◌, ◌+◌, ◌<◌, ◌≤◌, ◌^◌, ◌==◌, [], false, length, IfOk, IfSome, OnErr};
+ghost use Rattle.std.specs.Prelude.{◌≡◌, ◌≢◌, ◌+◌, ◌<◌, ◌≤◌, ◌^◌, ◌==◌, [], false, length, unsigned_abs, IfOk, IfSome, OnErr};
 ghost use Rattle.std.specs.List.{All, Contains};
+ghost use Rattle.std.specs.Option.{ForSome};
+ghost use Rattle.ob_code.specs.Pointers.{base_of};
 ghost use Rattle.ob_words.specs.Conversion.{convert};
 ghost use Rattle.ob_words.specs.declared.types.IntType.TheVariants.{Long};
+ghost use Rattle.ob_model.specs.Accesses.{is_far};
 ghost use Rattle.ob_model.specs.Descriptors.{surviving_pairs};
 ghost use Rattle.ob_model.specs.Entries.{with_live, with_freed, surviving_known, entries_of};
 ghost use Rattle.ob_model.specs.Limits.{heap_start};
 ghost use Rattle.ob_model.specs.Pointers.{pointers_compare, difference};
 ghost use Rattle.ob_objects.specs.Objects.{AreApart};
 ghost use Rattle.ob_access.specs.Pointees.{target_of};
-ghost use Rattle.ob_pointers.specs.Pointing.{Shifts, IsSound, IsHeapPlace, IsAt, target_in, pointer_in};
+ghost use Rattle.ob_access.specs.Shifts.{IsNear};
+ghost use Rattle.ob_pointers.specs.Pointing.{Shifts, IsSound, IsHeapPlace, IsAt, IsKnownPointee, target_in, pointer_in};
+ghost use Rattle.ob_pointers.specs.Placing.{Places, IsSlotted, IsMoveOf, as_answer};
 
-use crate::freed::{is_marked, no_marks, set_mark};
+use crate::freed::{no_marks, set_mark};
+use crate::named::named;
 use ob_access::{Pointee, Shift, difference, is_in_order, shift_to};
-use ob_away::AwayTable;
+use ob_away::{AwayTable, Full};
 use ob_base::NoMemory;
 use ob_model::Entry;
 use ob_objects::ObjectTable;
@@ -45,7 +51,7 @@ impl Model for Pointers {
 
     ghost view = { λ p. pointing_in p.objects p.freed.items p.away p.heap };
 
-    ghost invariant = { λ p. IsKept p.objects p.freed.items p.away p.heap };
+    ghost invariant = { λ p. IsKept p.objects.entries p.freed.items p.away.slots p.heap };
 }
 
 impl Pointers {
@@ -77,23 +83,8 @@ impl Pointers {
     /// Does nothing; its clause says what holds of the objects and slots at any time.
     pub fn stands(&self)
         ensures { IsSound self.now }
-    {}
-
-    // The object at an address, with the address's offset.
-    fn at_address(&mut self, w: u64) -> Option<Pointee> {
-        let entry = self.objects.find(w)?;
-        Some(Pointee {
-            entry,
-            freed: is_marked(self.freed.as_slice(), entry.base),
-            offset: (w - entry.base) as i64,
-        })
-    }
-
-    // The object whose pair stands in the slot of a word, with the pair's offset.
-    fn at_slot(&mut self, w: u64) -> Option<Pointee> {
-        let (base, offset) = self.away.read(w)?;
-        let pointee = self.at_address(base)?;
-        Some(Pointee { offset, ..pointee })
+    {
+        let _ = &self.heap;
     }
 
     /// What a word names: the object in which it is an address, one past the end included; or else the pointer
@@ -104,10 +95,7 @@ impl Pointers {
         ensures known { IfSome result (λ p. Contains self.old.entries (record { entry = p.entry; freed = p.freed })) }
         ensures sound { IsSound self.old }
     {
-        match self.at_address(w) {
-            Some(pointee) => Some(pointee),
-            None => self.at_slot(w),
-        }
+        named(&mut self.objects, self.freed.as_slice(), &self.away, w)
     }
 
     /// The word of a pointer moved by so many bytes (C99 6.5.6): null stays null; within its object, one past
@@ -121,12 +109,7 @@ impl Pointers {
         ensures unchanged { OnErr result (self.new ≡ self.old) }
     {
         let pointer = self.resolve(w);
-        match shift_to(pointer, displacement) {
-            Shift::StaysNull => Ok(0),
-            Shift::TooFar => Err(ShiftAnswer::Far),
-            Shift::InBounds { offset, .. } => Ok(address_of(pointer, offset)),
-            Shift::OutOfBounds { offset, .. } => self.slot_word(pointer, offset),
-        }
+        self.place(pointer, shift_to(pointer, displacement))
     }
 
     /// Whether what two words name stands in a relation (C99 6.5.8 and 6.5.9): by the objects' numbers, and
@@ -172,7 +155,7 @@ impl Pointers {
         ensures { self.new ≡ record self.old { entries = surviving_known (λ other. other == object) self.old.entries; slots = surviving_pairs (λ other. other == object) self.old.slots } }
     {
         let _ = self.objects.remove(base);
-        set_mark(self.freed.as_mut_slice(), base, false);
+        set_mark(&mut self.freed, base, false);
         self.away.forget(base);
     }
 
@@ -182,25 +165,60 @@ impl Pointers {
         requires heap { heap_start ≤ base }
         ensures { self.new ≡ record self.old { entries = with_freed object self.old.entries } }
     {
-        set_mark(self.freed.as_mut_slice(), base, true);
+        set_mark(&mut self.freed, base, true);
+    }
+
+    // The word of a pointer that goes there.
+    fn place(&mut self, pointer: Option<Pointee>, to: Shift) -> Result<u64, ShiftAnswer>
+        requires known { ForSome pointer (IsKnownPointee self.old.entries) }
+        requires near { IsNear to }
+        requires goes { IsMoveOf (target_of pointer) to }
+        ensures placed { Places (target_of pointer) to self.old result self.new }
+        ensures entries { self.new ≡ record self.old { slots = self.new.slots } }
+        ensures unchanged { OnErr result (self.new ≡ self.old) }
+    {
+        match to {
+            Shift::StaysNull => Ok(0),
+            Shift::TooFar => Err(ShiftAnswer::Far),
+            Shift::InBounds { offset, .. } => {
+                self.stands();
+                Ok(address_of(pointer, offset))
+            }
+            Shift::OutOfBounds { offset, .. } => self.slot_word(pointer, offset),
+        }
     }
 
     // The word of a pointer out of bounds.
-    fn slot_word(&mut self, pointer: Option<Pointee>, offset: i64) -> Result<u64, ShiftAnswer> {
+    fn slot_word(&mut self, pointer: Option<Pointee>, offset: i64) -> Result<u64, ShiftAnswer>
+        requires { ForSome pointer (IsKnownPointee self.old.entries) }
+        ensures slotted { ForSome pointer (λ p. IsSlotted (p.entry.object, offset) self.old result self.new) }
+        ensures entries { self.new ≡ record self.old { slots = self.new.slots } }
+        ensures unchanged { OnErr result (self.new ≡ self.old) }
+    {
         let Some(pointee) = pointer else {
             return Ok(0);
         };
-        match self.away.word_for(pointee.entry.base, offset) {
-            Ok(w) => Ok(w),
-            Err(_) => Err(ShiftAnswer::Full),
-        }
+        answered(self.away.word_for(pointee.entry.base, offset))
+    }
+}
+
+fn answered(word: Result<u64, Full>) -> Result<u64, ShiftAnswer>
+    ensures { result ≡ as_answer word }
+{
+    match word {
+        Ok(w) => Ok(w),
+        Err(Full) => Err(ShiftAnswer::Full),
     }
 }
 
 // The address of an offset in bounds.
-fn address_of(pointer: Option<Pointee>, offset: i64) -> u64 {
+fn address_of(pointer: Option<Pointee>, offset: i64) -> u64
+    requires base { ForSome pointer (λ p. p.entry.base < 2 ^ 63) }
+    requires near { is_far offset ≡ false }
+    ensures { result ≡ base_of (target_of pointer) + unsigned_abs offset }
+{
     match pointer {
         Some(pointee) => pointee.entry.base + offset.unsigned_abs(),
-        None => 0,
+        None => offset.unsigned_abs(),
     }
 }

@@ -2,7 +2,7 @@
 use Rattle.std.specs.Prelude.{◌≡◌, ℕ, ◌+◌, ◌≤◌, List, [], length}
 use Rattle.ob_model.specs.declared.settings.RunSettings.{RunSettings}
 use Rattle.ob_model.specs.Limits.{most_heap_bytes, most_static_bytes, stack_bytes}
-use Rattle.ob_flat.specs.Memory.{IsLaidOut, zeroed}
+use Rattle.ob_flat.specs.Memory.{IsLaidOut, Memory, zeroed}
 use Rattle.ob_code.specs.declared.image.PointerRow.{PointerRow}
 use Rattle.ob_code.specs.declared.image.StaticRow.{StaticRow}
 use Rattle.ob_code.specs.Layout.{static_blocks}
@@ -32,3 +32,11 @@ LaidOutIsStatic =
 abbrev pub ZeroedIsLaidOut : Type 0
 ZeroedIsLaidOut =
     (statics stack heap : ℕ) → statics ≤ most_static_bytes → stack ≤ stack_bytes → heap ≤ most_heap_bytes → IsLaidOut (zeroed statics stack heap)
+
+-- laying out keeps the ranges
+abbrev pub RangesAreKept : Type 0
+RangesAreKept =
+    (statics : List StaticRow) (pointers : List PointerRow) (m : Memory) →
+    ((static_memory statics pointers m).statics ≡ m.statics)
+    × ((static_memory statics pointers m).stack ≡ m.stack)
+    × ((static_memory statics pointers m).heap ≡ m.heap)

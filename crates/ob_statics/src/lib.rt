@@ -8,7 +8,7 @@
 //! definition of how an image starts.
 #![tactic(auto)]
 
-pub use laws::{law_laid_out, law_zeroed};
+pub use laws::{law_laid_out, law_ranges, law_zeroed};
 pub use statics::Statics;
 
 mod bases;

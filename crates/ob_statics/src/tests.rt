@@ -1,4 +1,4 @@
-ghost use Rattle.std.specs.Prelude.{◌≡◌, IfOk};
+ghost use Rattle.std.specs.Prelude.{◌≡◌, length, IfOk};
 ghost use Rattle.ob_flat.specs.Memory.{IsLaidOut};
 ghost use Rattle.ob_code.specs.Layout.{static_blocks};
 
@@ -8,6 +8,7 @@ use ob_code::{FunctionRow, Image, Instr, PointerRow, Rows, StaticRow, verify};
 use ob_flat::Flat;
 use ob_model::Profile;
 use std::alloc::Global;
+use std::process::Abort;
 use std::test::Fail;
 
 fn static_row(alloc: Global, size: u64, given: &[u8]) -> Result<StaticRow, NoMemory> {
@@ -72,6 +73,42 @@ fn laid_out(alloc: Global, statics: &Statics) -> Result<Flat, NoMemory>
     Ok(flat)
 }
 
+// Where the objects lie, and their sizes.
+const OBJECTS: [(u64, u64); 3] = [(4096, 6), (4112, 16), (4144, 0)];
+
+fn check_objects(rt: &impl Abort, statics: &Statics)
+    requires { length statics.now.statics ≡ 3 }
+{
+    for i in 0..3 {
+        let number = i as u32 + 1;
+        assert_eq!(rt; (statics.base(number), statics.size(number)), OBJECTS[i]);
+    }
+}
+
+// The granules of the three blocks, and whether each holds a pointer.
+const GRANULES: [(u64, bool); 8] = [
+    (0x6f_6c6c_6568, false),
+    (0, false),
+    (4128, true),
+    (4099, true),
+    (0, false),
+    (0, false),
+    (0, false),
+    (0, false),
+];
+
+fn check_granules(rt: &impl Abort, flat: &Flat)
+    requires { flat.now.statics ≡ 64 }
+{
+    for i in 0..8 {
+        let address = 4096 + 8 * i as u64;
+        assert_eq!(rt;
+            (flat.get(address, 8), flat.is_pointer(address)),
+            GRANULES[i]
+        );
+    }
+}
+
 // Each object lies behind the block before it, its bytes are there, and its pointers are marked.
 #[test]
 fn objects_and_pointers(rt: HostRuntime) -> Result<(), Fail> {
@@ -79,19 +116,11 @@ fn objects_and_pointers(rt: HostRuntime) -> Result<(), Fail> {
     let v = verify(image(alloc)?)
         .ok()
         .expect(&rt, "the image keeps the rules");
-    let image = v.image();
-    let s = Statics::new(alloc, image.statics.as_slice(), image.pointers.as_slice())?;
-    assert_eq!(rt; s.len(), 3);
-    assert_eq!(rt; s.blocks(), 64);
-    assert_eq!(rt; s.base(1), 4096);
-    assert_eq!(rt; s.base(2), 4112);
-    assert_eq!(rt; s.base(3), 4144);
-    assert_eq!(rt; s.size(2), 16);
-    let flat = laid_out(alloc, &s)?;
-    assert_eq!(rt; flat.get(4096, 8), 0x6f_6c6c_6568);
-    assert_eq!(rt; flat.get(4112, 8), 4128);
-    assert_eq!(rt; flat.get(4120, 8), 4099);
-    assert!(rt; flat.is_pointer(4112) && flat.is_pointer(4120));
-    assert!(rt; !flat.is_pointer(4104) && !flat.is_pointer(4128));
+    let rows = v.image();
+    let statics = Statics::new(alloc, rows.statics.as_slice(), rows.pointers.as_slice())?;
+    assert!(rt; statics.len() == 3 && statics.blocks() == 64);
+    check_objects(&rt, &statics);
+    let flat = laid_out(alloc, &statics)?;
+    check_granules(&rt, &flat);
     Ok(())
 }

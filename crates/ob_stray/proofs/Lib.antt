@@ -1,4 +1,3 @@
+mod Indexing
 mod Keys
 mod Listings
-mod Owned
-mod Turning

@@ -75,7 +75,7 @@ without_is k (e ∷ es) d = by_test (same_pair k e.0) refl (without_is k es d.1)
         rw (h, flipped k e true h) (untouched k es apart)
     by_test false h ih = rw (h, flipped k e false h) (ap (λ l. entry_of e ∷ l) ih)
 
-one_less : (k : Pair) (es : List Entry) (f : Entry) → lookup_entry (same_pair k) es ≡ Some f → suc (length (remove_entry (same_pair k) es)) ≡ length es
+pub one_less : (k : Pair) (es : List Entry) (f : Entry) → lookup_entry (same_pair k) es ≡ Some f → suc (length (remove_entry (same_pair k) es)) ≡ length es
 one_less k [] f h = cc
 one_less k (e ∷ es) f h = by_test (same_pair k e.0) refl (one_less k es f)
   where
@@ -162,11 +162,11 @@ is_none_cell k es = ap is_none (cell_of k es) ∙ by_test (lookup (same_pair k) 
     by_test None = refl
     by_test (Some c) = refl
 
-found_of : (k : Pair) (es : List Entry) (o : Option Entry) → lookup_entry (same_pair k) es ≡ o → is_some (lookup (same_pair k) es) ≡ true → (f : Entry) × (lookup_entry (same_pair k) es ≡ Some f)
+pub found_of : (k : Pair) (es : List Entry) (o : Option Entry) → lookup_entry (same_pair k) es ≡ o → is_some (lookup (same_pair k) es) ≡ true → (f : Entry) × (lookup_entry (same_pair k) es ≡ Some f)
 found_of k es None h t = absurd (let u = ap is_some (value_of k es ∙ ap (option_map (λ (e : Entry). e.1)) h) in false≢true (sym u ∙ t))
 found_of k es (Some f) h t = (f, h)
 
-none_of : (k : Pair) (es : List Entry) (o : Option Entry) → lookup_entry (same_pair k) es ≡ o → is_some (lookup (same_pair k) es) ≡ false → lookup_entry (same_pair k) es ≡ None
+pub none_of : (k : Pair) (es : List Entry) (o : Option Entry) → lookup_entry (same_pair k) es ≡ o → is_some (lookup (same_pair k) es) ≡ false → lookup_entry (same_pair k) es ≡ None
 none_of k es None h t = h
 none_of k es (Some f) h t = absurd (let u = ap is_some (value_of k es ∙ ap (option_map (λ (e : Entry). e.1)) h) in false≢true (sym t ∙ u))
 

@@ -5,19 +5,19 @@
 //! the list is as it was.
 //!
 //! It stands on ob_model for the list, on the kit's `lru` for its order, and on ob_base for `NoMemory`.
+//! Beside the list stands the set of its granules in order of objects, a `BTreeSet` of std.
 //!
-//! What a call costs: `new` takes no memory in proportion to the bound; a store takes it as the list
-//! grows. `load` costs one look-up by hash, and `store` at most three with an insertion and, in a full
-//! list, a removal, however long the list is. Beside the list stands the set of the objects that have had
-//! an entry, or were refused memory for one, since they were last forgotten. `forget` of any other object
-//! is one look-up in that set. `forget` of an object in it takes it out of the set and goes over the list
-//! once, with one look-up for each entry; so an object pays for such a walk once. `clear` takes out one
-//! entry after the other, and empties the set. `load`, `forget` and `clear` take no memory.
+//! What a call costs, where a search in the set takes the logarithm of the list's length: `load` costs one
+//! look-up by hash, and `store` at a listed granule two. `store` at another costs two look-ups, and an
+//! insertion into the list and the set; in a full list also a removal from both. `forget` costs one search
+//! in the set, and for each entry of the object one more, and a removal from both, however many entries
+//! other objects have. `clear` takes out one entry after the other. `new` takes no memory in proportion to
+//! the bound, `store` takes it at a new granule, and `load`, `forget` and `clear` take none.
 //!
 //! To be believed: specs/Store. specs/Kept says how a store is kept, and serves the proof alone.
 #![tactic(auto)]
 
 pub use store::{Dropped, StrayStore};
 
+mod indexed;
 mod store;
-mod walk;

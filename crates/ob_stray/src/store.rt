@@ -5,12 +5,10 @@ ghost use Rattle.ob_model.specs.declared.values.Cell.{Cell};
 ghost use Rattle.ob_stray.specs.Store.{as_dropped, answer_of, drops};
 ghost use Rattle.ob_stray.specs.Kept.{entry_of};
 
-use crate::walk::{Cells, bring, is_listed, remove_cells};
-use lru::LruCache;
+use crate::indexed::IndexedCells;
 use ob_base::NoMemory;
 use ob_model::Cell;
 use std::alloc::Global;
-use std::collections::HashSet;
 use std::marker::Model;
 use std::num::NonZeroUsize;
 
@@ -27,19 +25,16 @@ pub struct Dropped {
 /// of them are kept at a time.
 #[derive(Drop)]
 pub struct StrayStore {
-    cells: Cells,
-    owners: HashSet<u64>,
+    cells: IndexedCells,
 }
 
 impl Model for StrayStore {
     ghost use Rattle.ob_stray.specs.Store.{BoundedList};
-    ghost use Rattle.ob_stray.specs.Kept.{listing, AreOwned};
+    ghost use Rattle.ob_stray.specs.Kept.{listing};
 
     ghost Value = { BoundedList };
 
     ghost view = { λ s. record { cap = s.cells.cap; listed = listing s.cells.entries } };
-
-    ghost invariant = { λ s. AreOwned s.owners s.cells.entries };
 }
 
 /// An entry of the cache as the one that left.
@@ -67,8 +62,7 @@ impl StrayStore {
             return Err(NoMemory);
         };
         Ok(StrayStore {
-            cells: LruCache::sparse(alloc, bound)?,
-            owners: HashSet::new(alloc),
+            cells: IndexedCells::new(alloc, bound)?,
         })
     }
 
@@ -78,7 +72,7 @@ impl StrayStore {
         ensures cell { result ≡ listed_cell object granule self.old.listed }
         ensures moved { self.new ≡ record self.old { listed = after_load object granule self.old.listed } }
     {
-        bring(&mut self.cells, (object, granule))
+        self.cells.bring((object, granule))
     }
 
     /// Makes `cell` the cell of a granule, which comes to the front. Answers the entry that left: the
@@ -97,22 +91,18 @@ impl StrayStore {
         ensures err { OnErr result (self.new ≡ self.old) }
     {
         let key = (object, granule);
-        let listed = is_listed(&self.cells, key);
-        self.owners.insert(object)?;
-        let left = self.cells.push(key, cell)?;
-        if listed {
+        if self.cells.lists(key) {
+            self.cells.put_again(key, cell);
             return Ok(None);
         }
-        Ok(as_dropped(left))
+        Ok(as_dropped(self.cells.put_new(key, cell)?))
     }
 
     /// Takes out every entry of an object that dies or is freed. Takes no memory.
     pub fn forget(&mut self, object: u64)
         ensures { self.new ≡ record self.old { listed = surviving_cells (λ o. o == object) self.old.listed } }
     {
-        if self.owners.remove(&object) {
-            remove_cells(&mut self.cells, object);
-        }
+        self.cells.forget(object);
     }
 
     /// Takes out every entry, which gives the state that `new` gave. Takes no memory.
@@ -120,6 +110,5 @@ impl StrayStore {
         ensures { self.new ≡ record self.old { listed = [] } }
     {
         self.cells.clear();
-        self.owners.clear();
     }
 }

@@ -150,3 +150,24 @@ fn by_hand(rt: HostRuntime) -> Result<(), Fail> {
     }
     Ok(())
 }
+
+/// With room for 60 and three entries of each of 20 objects, one object is forgotten. Three new granules find room
+/// then, and each one after them makes the first of the others leave, in the order in which they were stored.
+#[test]
+fn others_stay_in_order(rt: HostRuntime) -> Result<(), Fail> {
+    let mut store = StrayStore::new(rt.alloc(), 60)?;
+    for i in 0..60u64 {
+        assert_eq!(rt; store.store(i % 20, i as i64 - 30, bytes(i))?, None);
+    }
+    store.forget(7);
+    for i in 0..3 {
+        assert_eq!(rt; store.store(20, i, bytes(0))?, None);
+    }
+    for i in 0..60u64 {
+        if i % 20 != 7 {
+            let out = store.store(21, i as i64, bytes(0))?;
+            assert_eq!(rt; out, left(i % 20, i as i64 - 30, i));
+        }
+    }
+    Ok(())
+}

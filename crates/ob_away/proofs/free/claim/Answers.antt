@@ -1,7 +1,7 @@
 use Rattle.std.proofs.Common.{◌≡◌, None, Some, arith, sym, ap, ◌∙◌}
 use Rattle.ob_model.specs.Descriptors.{vacant}
-use Rattle.ob_away.proofs.FreeList.{vacant-empty, IfNone-from}
-use Rattle.ob_away.proofs.Vacant.{pair_count-vacant, extended-count, extended-put, extended-listed, IfSome-map}
+use Rattle.ob_away.specs.Kept.{IsListed}
+use Rattle.ob_away.proofs.Vacant.{pair_count-vacant, pair_in-vacant, extended-count, extended-put, extended-listed, extended-vacant}
 use Rattle.ob_away.proofs.free.claim.Goals as goal
 
 pub returns-in-Some-clause-count : goal.returns-in-Some-clause-count
@@ -19,14 +19,18 @@ returns-clause-put c =
     let none : vacant c.args.slots.now.items ≡ None = sym (c.in_default.ensures.slot ∙ ap vacant c.deref.ensures.value) in
     extended-put c.args.limit c.args.slots.now.items c.extend.new.slots.items none c.extend.result c.extend.ensures.slot c.extend.ensures.slots
 
+pub returns-clause-vacant : goal.returns-clause-vacant
+returns-clause-vacant c =
+    let none : vacant c.args.slots.now.items ≡ None = sym (c.in_default.ensures.slot ∙ ap vacant c.deref.ensures.value) in
+    extended-vacant c.args.limit c.args.slots.now.items c.extend.new.slots.items none c.extend.result c.extend.ensures.slot c.extend.ensures.slots
+
+pub returns-in-Some-clause-vacant : goal.returns-in-Some-clause-vacant
+returns-in-Some-clause-vacant c =
+    let found : vacant c.args.slots.now.items ≡ Some c.in-Some.slot = sym (c.in-Some.ensures.slot ∙ ap vacant c.deref.ensures.value) in
+    pair_in-vacant c.args.slots.now.items c.in-Some.slot found
+
 pub returns-clause-listed : goal.returns-clause-listed
 returns-clause-listed c =
     let none : vacant c.args.slots.now.items ≡ None = sym (c.in_default.ensures.slot ∙ ap vacant c.deref.ensures.value) in
-    IfSome-map _ _ c.extend.result
-    (λ slot used pair. c.in_default.ensures.none ∙ sym (used pair))
-    (extended-listed c.args.limit c.args.slots.now.items c.extend.new.slots.items none c.extend.result c.extend.ensures.slot c.extend.ensures.slots)
-
-pub returns-clause-unlisted : goal.returns-clause-unlisted
-returns-clause-unlisted c =
-    let none : vacant c.args.slots.now.items ≡ None = sym (c.in_default.ensures.slot ∙ ap vacant c.deref.ensures.value) in
-    IfNone-from c.extend.result (c.in_default.ensures.none ∙ sym (vacant-empty c.args.slots.now.items none))
+    let listed : IsListed c.reuse.new.free c.args.slots.now.items = rw c.deref.ensures.value at c.in_default.ensures.none in
+    extended-listed c.args.limit c.args.slots.now.items c.extend.new.slots.items none c.reuse.new.free listed c.extend.result c.extend.ensures.slot c.extend.ensures.slots

@@ -1,7 +1,6 @@
 use Rattle.std.proofs.lemmas.List.{get_or_default}
-use Rattle.std.proofs.Common.{◌≡◌, ◌+◌, ◌<◌, List, ℕ, ap, arith, length, sym, take, ◌∙◌}
+use Rattle.std.proofs.Common.{◌≡◌, ◌+◌, List, ℕ, ap, arith, take, ◌∙◌}
 use Rattle.std.specs.Prelude.{slice_index_or}
-use Rattle.ob_flat.specs.Memory.{IsWithin}
 use Rattle.ob_code.specs.declared.image.StaticRow.{StaticRow}
 use Rattle.ob_code.specs.Layout.{static_blocks}
 use Rattle.ob_code.specs.Rules.{no_static, static_at}

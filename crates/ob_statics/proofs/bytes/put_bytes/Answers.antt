@@ -1,4 +1,4 @@
-use Rattle.std.proofs.Common.{◌≡◌, ◌+◌, ◌<◌, ap, arith, refl, ◌∙◌}
+use Rattle.std.proofs.Common.{◌+◌, ◌<◌, ap, arith, refl, ◌∙◌}
 use Rattle.std.specs.Prelude.{slice_index_or}
 use Rattle.ob_flat.specs.Memory.{Memory, with_field}
 use Rattle.ob_statics.proofs.Putting.{bytes_next, ranges_after}

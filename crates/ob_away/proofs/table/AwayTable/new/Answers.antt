@@ -1,8 +1,10 @@
-use Rattle.std.proofs.Common.{length, ap, sym, ◌∙◌, arith}
+use Rattle.std.proofs.Common.{length, ap, arith}
 use Rattle.std.proofs.lemmas.Grind.{common_steps}
 use Rattle.ob_model.specs.Descriptors.{Slots}
 use Rattle.ob_away.specs.Slots.{Descriptors}
-use Rattle.ob_away.proofs.Changes.{IsInterned-none, IsIndexed-none, IsMarked-none, free_below-none}
+use Rattle.ob_away.proofs.Changes.{IsInterned-none, IsIndexed-none}
+use Rattle.ob_away.proofs.FreeSlots.{IsListed-none}
+use Rattle.ob_away.proofs.Linked.{IsLinked-none}
 use Rattle.ob_away.proofs.table.AwayTable.new.Goals as goal
 
 pub invariant_of-result : goal.invariant_of-result
@@ -12,10 +14,11 @@ invariant_of-result c =
       within = omega (arith, ap length slots);
       interned = IsInterned-none c.in_ok-with_capacity.field-0.items slots;
       indexed = IsIndexed-none c.in_ok-with_capacity-3.field-0 c.in_ok-with_capacity.field-0.items slots;
-      listed = c.in_ok-with_capacity-2.ensures.items ∙ sym (free_below-none c.in_ok-with_capacity.field-0.items slots);
-      marked = IsMarked-none c.in_ok-vec.field-0.items c.in_ok-with_capacity.field-0.items slots;
-      marks_long = grind (arith, common_steps, c.in_ok-vec.ensures.len);
+      listed = IsListed-none c.in_ok-with_capacity.field-0.items c.in_ok-with_capacity-2.field-0 slots c.in_ok-with_capacity-2.ensures.heap_order c.in_ok-with_capacity-2.ensures.items c.in_ok-with_capacity-2.ensures.len;
+      linked = IsLinked-none c.in_ok-with_capacity-4.field-0 c.in_ok-vec.field-0.items c.in_ok-with_capacity.field-0.items slots;
+      next_long = grind (arith, common_steps, c.in_ok-vec.ensures.len);
       roomy = omega (arith, c.in_ok-with_capacity-3.ensures.spare);
+      heads_roomy = omega (arith, c.in_ok-with_capacity-4.ensures.spare);
       slots_fit = omega (arith, c.in_ok-with_capacity.ensures.capacity);
       free_fit = omega (arith, c.in_ok-with_capacity-2.ensures.capacity);
     }

@@ -7,14 +7,7 @@ use Rattle.ob_model.specs.Descriptors.{Pair, same_pair}
 use Rattle.ob_model.specs.declared.values.Cell.{Cell}
 use Rattle.ob_stray.specs.Store.{BoundedList}
 use Rattle.ob_stray.proofs.Listings.{cell_of, promoted_is}
-use Rattle.ob_stray.proofs.Owned.{owned-promoted}
 use Rattle.ob_stray.proofs.store.StrayStore.load.Goals as goal
-
-pub invariant_of-self : goal.invariant_of-self
-invariant_of-self c =
-    let moved : ℤ → LruCache Pair Cell = λ z. lru_cache (promoted (same_pair (c.args.object, z)) c.self.inside.cells.entries) c.self.inside.cells.cap in
-    rw (c.bring.ensures.entries ∙ ap moved (to_z-of_z w64 c.args.granule c.ranges.granule))
-    (owned-promoted c.self.inside.owners (same_pair (c.args.object, c.args.granule)) c.self.inside.cells.entries c.self.invariant)
 
 pub returns-clause-cell : goal.returns-clause-cell
 returns-clause-cell c =

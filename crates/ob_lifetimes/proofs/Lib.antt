@@ -1,0 +1,10 @@
+pub mod Members
+pub mod Tables
+pub mod Heaps
+pub mod Rooms
+pub mod Keeping
+pub mod Moving
+pub mod Sounding
+pub mod Frames
+pub mod Entering
+pub mod Leaving
