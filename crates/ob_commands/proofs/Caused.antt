@@ -5,14 +5,13 @@ use Rattle.ob_base.specs.Devices.{Loading, Reading}
 use Rattle.ob_model.specs.Endings.{closed}
 use Rattle.ob_code.specs.declared.image.Image.{Image}
 use Rattle.ob_code.specs.Rules.{IsVerified}
-use Rattle.ob_space.specs.Unbuilt.{IsBuilt}
 use Rattle.ob_image.specs.Faults.{Spells}
 use Rattle.ob_settings.specs.declared.job.Job.{Job}
 use Rattle.ob_settings.specs.declared.verb.Verb.{Verb}
 use Rattle.ob_settings.specs.declared.verb.Verb.TheVariants as verb
 use Rattle.ob_commands.specs.Answers.{Outcome, told_why}
 use Rattle.ob_commands.specs.Parts as parts
-use Rattle.ob_commands.specs.Parts.{Asked, Language, asked, OfFile, unavailable, long, OfSource, faulty, later, accepted, OfImage, bad, verified, OfBuilt, unbuilt, built, IsLoaded}
+use Rattle.ob_commands.specs.Parts.{Asked, Language, asked, OfFile, unavailable, long, OfSource, faulty, later, accepted, OfImage, bad, verified, IsLoaded}
 use Rattle.ob_commands.specs.Top.{Devices, Handed, Comes, ComesOf, Says}
 use Rattle.ob_commands.specs.Causes.{Cause, CauseOf, NoJobCause, CannotYet, Loads, HasSource, HasBytes, HasProgram, HasImage}
 use Rattle.ob_commands.specs.Laws.{AnswersHaveCauses}
@@ -39,20 +38,14 @@ module _ (lang : Language) where
   of_image v a d o bytes Then has (bad fault cause not_read is) next = by_equal v a d o _ is (record { bytes = bytes; has = has; is_bad = cause })
   of_image v a d o bytes Then has (verified image spelled sound goes_on) next = next image spelled sound goes_on
 
-  of_built : (a : Asked) (d : Devices) (o : Outcome) (image : Image) (Then : Type 0) → HasImage verb.Exec a d.folder image → OfBuilt a.job.argument image d.input o Then →
-      (IsBuilt image → Then → Cause lang o.answer verb.Exec a d) → Cause lang o.answer verb.Exec a d
-  of_built a d o image Then has (unbuilt cause not_read is) next = by_equal verb.Exec a d o _ is (image, has, cause)
-  of_built a d o image Then has (built runs goes_on) next = next runs goes_on
-
   comes_of : (v : Verb) (a : Asked) (d : Devices) (o : Outcome) → ComesOf lang v a d.folder d.input o → Cause lang o.answer v a d
   comes_of verb.Run a d o c =
       of_file verb.Run a _ d o _ refl c (λ source from goes_on. of_source a d o source _ from goes_on (λ program typed then.
       by_equal verb.Run a d o _ then.1 (program, record { source = source; has = from; typed = typed }, refl)))
   comes_of verb.Exec a d o c =
       of_file verb.Exec a _ d o _ refl c (λ bytes from goes_on. of_image verb.Exec a d o bytes _ from goes_on (λ image spelled sound then.
-      let has : HasImage verb.Exec a d.folder image = record { bytes = bytes; has = from; spelled = spelled; sound = sound } in
-      of_built a d o image _ has then (λ runs it.
-      by_equal verb.Exec a d o _ it.is (image, has, runs, record { input = it.input; input_end = it.input_end; is_input = it.is_input; ends = refl }))))
+      by_equal verb.Exec a d o _ then.is
+      (image, record { bytes = bytes; has = from; spelled = spelled; sound = sound }, record { input = then.input; input_end = then.input_end; is_input = then.is_input; ends = refl })))
   comes_of verb.Migrate a d o c =
       of_file verb.Migrate a _ d o _ refl c (λ bytes from goes_on. of_image verb.Migrate a d o bytes _ from goes_on (λ image spelled sound then.
       by_equal verb.Migrate a d o _ then.is (image, record { bytes = bytes; has = from; spelled = spelled; sound = sound })))

@@ -1,5 +1,4 @@
 mod Residue
-pub mod Quiet
 pub mod Coming
 pub mod Delivering
 pub mod Caused

@@ -1,5 +1,5 @@
 -- The rows of the table on `top`, for each language.
-use Rattle.std.proofs.Common.{◌≡◌, ◌≢◌, ℕ, Bool, ◌<◌, ◌≤◌, ◌⊎◌, List, [], length, take, refl, sym, ap, ◌∙◌, subst, arith, inl, inr}
+use Rattle.std.proofs.Common.{◌≡◌, ◌≢◌, ℕ, Bool, true, false, ◌<◌, ◌≤◌, ◌⊎◌, List, [], length, take, refl, sym, ap, ◌∙◌, subst, arith, inl, inr}
 use Rattle.std.proofs.Math.Seq.{take-length}
 use Rattle.std.specs.Prelude.{Option, Some, None}
 use Rattle.std.specs.Io.KnownBytes.{append_known}
@@ -23,8 +23,8 @@ use Rattle.ob_commands.specs.declared.answer.Answer.{Answer}
 use Rattle.ob_commands.specs.declared.answer.Answer.TheVariants.{Usage, FileFault, FileLong, Refused, Bad, Ran, NotYet}
 use Rattle.ob_commands.specs.Answers.{Outcome, TakesMemory, status_of, told_why}
 use Rattle.ob_commands.specs.Parts as parts
-use Rattle.ob_commands.specs.Parts.{Asked, Language, asked, final_of, settings_for, OfFile, unavailable, long, OfSource, faulty, later, accepted, OfImage, bad, verified, OfBuilt, unbuilt, built}
-use Rattle.ob_commands.specs.Top.{Answers, Ask, Comes, ComesOf, Delivers, Devices, Does, Handed, Says, does, helpless, wants_report, whole, out_failed, err_failed, starved}
+use Rattle.ob_commands.specs.Parts.{Asked, Language, asked, final_of, settings_for, OfFile, unavailable, long, OfSource, faulty, later, accepted, OfImage, bad, verified}
+use Rattle.ob_commands.specs.Top.{Answers, Ask, Comes, ComesOf, Delivers, Devices, Does, Handed, Says, does, helpless, wants_report, whole, out_failed, err_failed, lost, starved}
 use Rattle.ob_commands.specs.Causes.{CauseOf, HasEnding, RunEnds}
 use Rattle.ob_commands.specs.Laws as laws
 use Rattle.ob_commands.specs.Laws.{AllIsTold, CannotLoad, ComesTo, IsRefusal, LaterTold, NoOther, NotYetOnly, OwnOnly, RefusalsAreTold, FaultOnly, FaultTold, FaultsAreTold, FileFaultOnly, FileLongOnly, GivesWay, HasLongFile, InputIsLeft, IsTold, BadOnly, BadTold, EndingOnly, RanTo, ReadFaultOnly, SinksTakePrefixes, Takes, UsageOnly, UsageTakesNoMemory, UsageWhen, WriteFaultOnly}
@@ -44,6 +44,7 @@ prefixes_of : (report : Bool) (o : Outcome) (out err : Writing) (s n : ℕ) → 
 prefixes_of report o out err s n (whole w e is c) = (all_taken out o.out w, all_taken err o.err e)
 prefixes_of report o out err s n (out_failed w e is c) = (w.took, none_taken err o.err e)
 prefixes_of report o out err s n (err_failed w e is c) = (all_taken out o.out w, e.took)
+prefixes_of report o out err s n (lost keeps w e is c) = (w.took, none_taken err o.err e)
 prefixes_of report o out err s n (starved t w e is c) = (all_taken out o.out w, none_taken err o.err e)
 
 -- ---- delivery
@@ -55,6 +56,8 @@ delivered d report o due s n is (out_failed w e status_is count) =
     inr (inl status_is, subst (λ x. Takes d.out x.out) is w.took, none_taken d.err due.err e)
 delivered d report o due s n is (err_failed w e status_is count) =
     inr (inl status_is, subst (λ x. Takes d.out x.out) is (all_taken d.out o.out w), subst (λ x. Takes d.err x.err) is e.took)
+delivered d report o due s n is (lost keeps w e status_is count) =
+    inr (inr status_is, subst (λ x. Takes d.out x.out) is w.took, none_taken d.err due.err e)
 delivered d report o due s n is (starved t w e status_is count) =
     inr (inr status_is, subst (λ x. Takes d.out x.out) is (all_taken d.out o.out w), none_taken d.err due.err e)
 
@@ -83,15 +86,11 @@ image_alone : (name bytes : List ℕ) (r : Reading) (o : Outcome) (Then : Image 
 image_alone name bytes r o Then (bad fault cause unread is) f = told_alone name (Bad fault) o is
 image_alone name bytes r o Then (verified image spelled sound goes_on) f = f image goes_on
 
-built_alone : (name : List ℕ) (image : Image) (r : Reading) (o : Outcome) (Then : Type 0) → OfBuilt name image r o Then → (Then → o ≡ told_why name o.answer) → o ≡ told_why name o.answer
-built_alone name image r o Then (unbuilt cause unread is) f = told_alone name NotYet o is
-built_alone name image r o Then (built runs goes_on) f = f goes_on
-
 job_alone : (lang : Language) (v : Verb) (a : Asked) (l : Loading) (r : Reading) (o : Outcome) → ComesOf lang v a l r o → IsRefusal o.answer → o ≡ told_why a.job.argument o.answer
 job_alone lang verb.Run a l r o comes refused =
     file_alone a _ l r o _ comes (λ text then. source_alone lang _ text r o _ then (λ program it. absurd (no_run o _ it.1 (λ x. x) refused)))
 job_alone lang verb.Exec a l r o comes refused =
-    file_alone a _ l r o _ comes (λ bytes then. image_alone _ bytes r o _ then (λ image next. built_alone _ image r o _ next (λ it. absurd (no_run o _ it.is (λ x. x) refused))))
+    file_alone a _ l r o _ comes (λ bytes then. image_alone _ bytes r o _ then (λ image it. absurd (no_run o _ it.is (λ x. x) refused)))
 job_alone lang verb.Migrate a l r o comes refused =
     file_alone a _ l r o _ comes (λ bytes then. image_alone _ bytes r o _ then (λ image it. absurd (no_run o _ it.is (λ x. x) refused)))
 job_alone lang verb.Compile a l r o comes refused = told_alone _ NotYet o comes.is
@@ -118,6 +117,7 @@ usage_status : (s n : ℕ) (d : Devices) (o : Outcome) (report : Bool) → o ≡
 usage_status s n d o report is (whole w e status_is c) = inl (status_is ∙ ap (λ x. status_of x.answer) is)
 usage_status s n d o report is (out_failed w e status_is c) = inr status_is
 usage_status s n d o report is (err_failed w e status_is c) = inr status_is
+usage_status s n d o report is (lost keeps w e status_is c) = let never : false ≡ true = sym (ap (λ x. x.keeps) is) ∙ keeps in absurd (cc)
 usage_status s n d o report is (starved t w e status_is c) = absurd (subst (λ x. TakesMemory report x.answer) is t)
 
 -- ---- faults of devices
@@ -186,7 +186,7 @@ module _ (lang : Language) (small : OwnStatusIsBelow) (ends : RunsEndSo) where
 
   no_write_fault : (v : Verb) (a : Asked) (d : Devices) → HasEnding lang v a d ending.WriteFault → ⊥
   no_write_fault verb.Run a d it = run_may_end a (lang.code_of it.0) [] closed ending.WriteFault it.2
-  no_write_fault verb.Exec a d it = let run = it.3 in run_may_end a it.0 run.input run.input_end ending.WriteFault run.ends
+  no_write_fault verb.Exec a d it = let run = it.2 in run_may_end a it.0 run.input run.input_end ending.WriteFault run.ends
   no_write_fault verb.Migrate a d it = it
   no_write_fault verb.Compile a d it = it
   no_write_fault verb.Check a d it = it
@@ -195,7 +195,7 @@ module _ (lang : Language) (small : OwnStatusIsBelow) (ends : RunsEndSo) where
 
   read_rose : (v : Verb) (a : Asked) (d : Devices) → HasEnding lang v a d ending.ReadFault → Rose d.input.faults_before d.input.faults_now
   read_rose verb.Run a d it = absurd (let e : closed ≡ failed = run_may_end a (lang.code_of it.0) [] closed ending.ReadFault it.2 in cc)
-  read_rose verb.Exec a d it = let run = it.3 in read_failed d.input run.input run.input_end run.is_input (run_may_end a it.0 run.input run.input_end ending.ReadFault run.ends)
+  read_rose verb.Exec a d it = let run = it.2 in read_failed d.input run.input run.input_end run.is_input (run_may_end a it.0 run.input run.input_end ending.ReadFault run.ends)
   read_rose verb.Migrate a d it = absurd it
   read_rose verb.Compile a d it = absurd it
   read_rose verb.Check a d it = absurd it
@@ -209,6 +209,7 @@ module _ (lang : Language) (small : OwnStatusIsBelow) (ends : RunsEndSo) where
       record { job = it.job; asks = it.asks; outcome = it.outcome; comes = it.comes; cause = caused lang it.job h d it.outcome it.comes; out = w; err = e; status_is = status_is; count = count }
   told_does h d s n it (out_failed w e status_is count) kept = absurd (kept (inl status_is))
   told_does h d s n it (err_failed w e status_is count) kept = absurd (kept (inl status_is))
+  told_does h d s n it (lost keeps w e status_is count) kept = absurd (kept (inr status_is))
   told_does h d s n it (starved t w e status_is count) kept = absurd (kept (inr status_is))
 
   pub all_is_told : AllIsTold lang
@@ -324,6 +325,7 @@ module _ (lang : Language) (small : OwnStatusIsBelow) (ends : RunsEndSo) where
   status_small s d n report o (whole w e is c) = subst (λ x. x ≤ 145) (sym is) (statuses_small small o.answer)
   status_small s d n report o (out_failed w e is c) = omega (arith, is)
   status_small s d n report o (err_failed w e is c) = omega (arith, is)
+  status_small s d n report o (lost keeps w e is c) = omega (arith, is)
   status_small s d n report o (starved t w e is c) = omega (arith, is)
 
   pub no_other : NoOther lang
@@ -340,6 +342,7 @@ module _ (lang : Language) (small : OwnStatusIsBelow) (ends : RunsEndSo) where
       absurd (no_write_fault end.job.verb _ d (subst (HasEnding lang end.job.verb _ d) (is_write_fault small end.ending (sym end.status_is ∙ is)) end.ended))
   wrote_wrongly h d s n it is (out_failed w e own_is c) = inl w.cause
   wrote_wrongly h d s n it is (err_failed w e own_is c) = inr e.cause
+  wrote_wrongly h d s n it is (lost keeps w e own_is c) = absurd (omega (arith, is, own_is))
   wrote_wrongly h d s n it is (starved t w e own_is c) = absurd (omega (arith, is, own_is))
 
   pub write_fault_only : WriteFaultOnly lang

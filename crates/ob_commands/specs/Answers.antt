@@ -1,12 +1,11 @@
 -- What a job comes to, as data: its answer with the status and the line that belong to it, what is due to the two sinks, and how
 -- many instructions were run.
-use Rattle.std.specs.Prelude.{◌≡◌, ℕ, Bool, IsTrue, List, [], ◌∷◌, ◌++◌, map, ⊤, if◌then◌else◌}
+use Rattle.std.specs.Prelude.{◌≡◌, ℕ, Bool, false, IsTrue, List, [], ◌∷◌, ◌++◌, map, ⊤, if◌then◌else◌}
 use Rattle.ob_tree.specs.declared.faults.SourceFault.{SourceFault}
 use Rattle.ob_tree.specs.declared.faults.SourceFault.TheVariants as source
 use Rattle.ob_tree.specs.declared.faults.SyntaxKind.TheVariants as syntax
-use Rattle.ob_model.specs.declared.strays.StrayEvent.{StrayEvent}
 use Rattle.ob_model.specs.Endings as endings
-use Rattle.ob_watch.specs.Watching.{Watch, kept_after, total_after}
+use Rattle.ob_watch.specs.Watching.{Watch}
 use Rattle.ob_report.specs.Diagnostics.{diagnostic_line}
 use Rattle.ob_report.specs.Lines.{bad_image_line, ending_line, file_fault_line, file_long_line, not_yet_line, usage_line}
 use Rattle.ob_report.specs.Reports.{Account, report_text}
@@ -48,13 +47,6 @@ line_of name NotYet = not_yet_line
 
 -- ---- watchers
 
-abbrev pub after_event : Watch → StrayEvent → Watch
-after_event w e = record w { kept = kept_after w.capacity w.kept e; total = total_after w.total }
-
-abbrev pub after_events : List StrayEvent → Watch → Watch
-after_events [] w = w
-after_events (e ∷ es) w = after_events es (after_event w e)
-
 abbrev pub account_of : Watch → Account
 account_of w = record { total = w.total; kept = w.kept }
 
@@ -64,19 +56,21 @@ report_of asked ws = if asked then report_text (map account_of ws) else []
 
 -- ---- outcomes
 
+-- `keeps` tells of a run that keeps stores outside of objects, for which memory may be wanting
 pub record Outcome : Type 0 where
   pub answer : Answer
   pub out : List ℕ
   pub err : List ℕ
   pub instructions : ℕ
+  pub keeps : Bool
 
 -- nothing but the line that says why
 abbrev pub told_why : (name : List ℕ) → Answer → Outcome
-told_why name answer = record { answer = answer; out = []; err = line_of name answer; instructions = 0 }
+told_why name answer = record { answer = answer; out = []; err = line_of name answer; instructions = 0; keeps = false }
 
 -- nothing but bytes for the output
 abbrev pub wrote : List ℕ → Outcome
-wrote bytes = record { answer = Done; out = bytes; err = []; instructions = 0 }
+wrote bytes = record { answer = Done; out = bytes; err = []; instructions = 0; keeps = false }
 
 -- what is due to the error sink takes memory to make: a line that names a place, or a report
 abbrev pub TakesMemory : (report : Bool) → Answer → Type 0

@@ -7,7 +7,6 @@ use Rattle.ob_model.specs.Endings.{InputEnd, closed}
 use Rattle.ob_code.specs.declared.faults.BadImage.{BadImage}
 use Rattle.ob_code.specs.declared.image.Image.{Image}
 use Rattle.ob_code.specs.Rules.{IsVerified}
-use Rattle.ob_space.specs.Unbuilt.{IsBuilt}
 use Rattle.ob_image.specs.Faults.{Spells}
 use Rattle.ob_machine.specs.Devices.{IsInput}
 use Rattle.ob_settings.specs.declared.job.Job.{Job}
@@ -77,7 +76,7 @@ pub record RunEnds (a : Asked) (image : Image) (r : Reading) (e : Ending) : Type
 -- the ending that the status tells is that of the definition's run
 abbrev pub HasEnding : Language → Verb → Asked → Devices → Ending → Type 0
 HasEnding lang verb.Run a d e = (program : lang.Program) × HasProgram lang verb.Run a d.folder program × (e ≡ (final_of a (lang.code_of program) [] closed).ending)
-HasEnding lang verb.Exec a d e = (image : Image) × HasImage verb.Exec a d.folder image × IsBuilt image × RunEnds a image d.input e
+HasEnding lang verb.Exec a d e = (image : Image) × HasImage verb.Exec a d.folder image × RunEnds a image d.input e
 HasEnding lang _ a d e = ⊥
 
 -- the command did its work
@@ -88,7 +87,7 @@ HasDone _ a folder = ⊥
 -- the source or the image is one that can't be done yet, or the command is
 abbrev pub CannotYet : Language → Verb → Asked → Loading → Type 0
 CannotYet lang verb.Run a folder = HasLater lang verb.Run a folder
-CannotYet lang verb.Exec a folder = (image : Image) × HasImage verb.Exec a folder image × (¬ IsBuilt image)
+CannotYet lang verb.Exec a folder = ⊥
 CannotYet lang verb.Migrate a folder = ⊥
 CannotYet lang verb.Compile a folder = ⊤
 CannotYet lang verb.Check a folder = ⊤

@@ -21,7 +21,7 @@ use Rattle.ob_settings.specs.declared.verb.Verb.TheVariants as verb
 use Rattle.ob_settings.specs.Jobs.{IsJobFor, IsUsage, IsUsageFor}
 use Rattle.ob_commands.specs.declared.answer.Answer.{Answer}
 use Rattle.ob_commands.specs.declared.answer.Answer.TheVariants.{Done, Usage, FileFault, FileLong, Refused, Bad, Ran, NotYet}
-use Rattle.ob_commands.specs.Answers.{Outcome, after_events, fault_status, line_of, status_of, told_why}
+use Rattle.ob_commands.specs.Answers.{Outcome, fault_status, line_of, status_of, told_why}
 use Rattle.ob_commands.specs.Parts.{Asked, Language, IsLong, asked, final_of, most_source_bytes, run_outcome}
 use Rattle.ob_commands.specs.Top.{Answers, Ask, Comes, Devices, Does, Handed}
 use Rattle.ob_commands.specs.Causes.{Cause, CauseOf, CannotYet, HasBadImage, HasEnding, HasFault, Loads}

@@ -1,11 +1,16 @@
 -- What commands have in common: a file that is loaded, a source that is compiled, an image that is verified, a run on the input.
 -- Each part says once what it may come to by itself, and leaves the rest to the command, as a relation on what it has got.
-use Rattle.std.specs.Prelude.{◌≡◌, ℕ, ◌==◌, ◌≤◌, ◌⊎◌, List, [], ◌++◌, length, map, slice_index_or, if◌then◌else◌}
+use Rattle.std.specs.List.{list_any}
+use Rattle.std.specs.Prelude.{◌≡◌, ℕ, Bool, true, false, ◌&&◌, ◌==◌, ◌≤◌, ◌⊎◌, List, [], ◌++◌, length, map, slice_index_or, if◌then◌else◌}
 use Rattle.ob_base.specs.Devices.{Loading, Reading, IsSound, IsUnavailable, IsToldAs, IsToldLong, IsUnread}
 use Rattle.ob_model.specs.declared.settings.Profile.{Profile}
 use Rattle.ob_model.specs.declared.settings.RunSettings.{RunSettings}
 use Rattle.ob_model.specs.Endings.{InputEnd}
-use Rattle.ob_watch.specs.Watching.{Watch}
+use Rattle.ob_model.specs.declared.strays.Act.{Act}
+use Rattle.ob_model.specs.declared.strays.Act.TheVariants as act
+use Rattle.ob_model.specs.declared.strays.StrayEvent.{StrayEvent}
+use Rattle.ob_model.specs.Settings.{keeps_strays}
+use Rattle.ob_watch.specs.Watching.{Watch, after_events}
 use Rattle.ob_code.specs.declared.faults.BadImage.{BadImage}
 use Rattle.ob_code.specs.declared.faults.Part.TheVariants as part
 use Rattle.ob_code.specs.declared.image.Image.{Image}
@@ -13,14 +18,13 @@ use Rattle.ob_code.specs.FirstFault.{IsFirstFault}
 use Rattle.ob_code.specs.Rules.{IsVerified}
 use Rattle.ob_code.specs.Start.{flat_final}
 use Rattle.ob_code.specs.State.{Final}
-use Rattle.ob_space.specs.Unbuilt.{IsBuilt}
 use Rattle.ob_image.specs.Faults.{IsFirstWrong, Spells}
 use Rattle.ob_machine.specs.Devices.{IsInput}
 use Rattle.ob_tree.specs.declared.faults.SourceFault.{SourceFault}
 use Rattle.ob_report.specs.Lines.{ending_line}
 use Rattle.ob_settings.specs.declared.job.Job.{Job}
 use Rattle.ob_commands.specs.declared.answer.Answer.TheVariants.{FileFault, FileLong, Refused, Bad, Ran, NotYet}
-use Rattle.ob_commands.specs.Answers.{Outcome, told_why, after_events, report_of}
+use Rattle.ob_commands.specs.Answers.{Outcome, told_why, report_of}
 
 -- what a compiler promises of a source: its fault, that it can't be compiled yet, that it is a program's, and the image of a program
 pub record Language : Type 1 where
@@ -89,11 +93,6 @@ pub data OfImage (name bytes : List ℕ) (input : Reading) (o : Outcome) (Then :
   bad : (fault : BadImage) (cause : IsBadImage bytes fault) (unread : IsUnread input) (is : o ≡ told_why name (Bad fault)) → OfImage name bytes input o Then
   verified : (image : Image) (spelled : Spells bytes image) (sound : IsVerified image) (goes_on : Then image) → OfImage name bytes input o Then
 
--- the machine doesn't run every image yet
-pub data OfBuilt (name : List ℕ) (image : Image) (input : Reading) (o : Outcome) (Then : Type 0) : Type 0 where
-  unbuilt : (cause : ¬ IsBuilt image) (unread : IsUnread input) (is : o ≡ told_why name NotYet) → OfBuilt name image input o Then
-  built : (runs : IsBuilt image) (goes_on : Then) → OfBuilt name image input o Then
-
 -- ---- runs
 
 -- a job's settings, with the image's profile where the job names none
@@ -105,6 +104,18 @@ abbrev pub final_of : Asked → Image → (input : List ℕ) → InputEnd → Fi
 final_of a image input input_end =
     flat_final image (settings_for a.job image.profile) a.supply.cycle a.supply.place input input_end a.job.steps
 
+-- a store is among the stray accesses, and the mode keeps it
+abbrev pub is_store_act : Act → Bool
+is_store_act act.Load = false
+is_store_act act.Store = true
+is_store_act act.Free = false
+
+abbrev pub is_store : StrayEvent → Bool
+is_store e = is_store_act e.act
+
+abbrev pub keeps_stores : Asked → Final → Bool
+keeps_stores a f = keeps_strays a.job.settings.mode && list_any is_store f.state.events
+
 -- what a run comes to: its output; the line of its ending and, where it was asked for, the report of the watchers
 abbrev pub run_outcome : Asked → Final → Outcome
 run_outcome a f =
@@ -113,6 +124,7 @@ run_outcome a f =
       out = f.state.output;
       err = ending_line f.ending ++ report_of a.job.report (map (after_events f.state.events) a.watchers);
       instructions = f.state.instructions;
+      keeps = keeps_stores a f;
     }
 
 -- the image is run on these bytes

@@ -1,7 +1,8 @@
 -- What `top` owes: one clause. The words ask for a job or for none; by its command the job comes to an outcome; the outcome is
 -- delivered to the sinks. What sources are is the compiler's to say.
-use Rattle.std.specs.Prelude.{◌≡◌, ℕ, ◌≤◌, Bool, false, List, [], length, Option, Some, None}
+use Rattle.std.specs.Prelude.{◌≡◌, ℕ, ◌≤◌, Bool, true, false, List, [], length, Option, Some, None}
 use Rattle.ob_base.specs.Devices.{Loading, Reading, Writing, IsSound, IsUnread, IsUnwritten, IsWritten, IsCutOff}
+use Rattle.ob_machine.specs.Devices.{IsPartlySent}
 use Rattle.ob_watch.specs.Watching.{Watch}
 use Rattle.ob_settings.specs.declared.job.Job.{Job}
 use Rattle.ob_settings.specs.declared.verb.Verb.{Verb}
@@ -73,13 +74,15 @@ abbrev pub wants_report : Option Job → Bool
 wants_report None = false
 wants_report (Some job) = job.report
 
--- ---- delivery. The output comes first; a sink that fails ends all; where there is no memory for what is due to the error sink, it
+-- ---- delivery. The output comes first; a sink that fails ends all; where memory is wanting in a run
+-- that keeps stores outside of objects, the output has taken a prefix, and where there is none for what is due to the error sink, that
 -- gets nothing.
 
 pub data Delivers (report : Bool) (o : Outcome) (out err : Writing) (status instructions : ℕ) : Type 0 where
   whole : (all_out : IsWritten out o.out) (all_err : IsWritten err o.err) (status_is : status ≡ status_of o.answer) (count : instructions ≡ o.instructions) → Delivers report o out err status instructions
   out_failed : (cut : IsCutOff out o.out) (no_err : IsUnwritten err) (status_is : status ≡ 143) (count : instructions ≤ o.instructions) → Delivers report o out err status instructions
   err_failed : (all_out : IsWritten out o.out) (cut : IsCutOff err o.err) (status_is : status ≡ 143) (count : instructions ≡ o.instructions) → Delivers report o out err status instructions
+  lost : (keeps : o.keeps ≡ true) (sent : IsPartlySent out o.out) (no_err : IsUnwritten err) (status_is : status ≡ 144) (count : instructions ≤ o.instructions) → Delivers report o out err status instructions
   starved : (takes : TakesMemory report o.answer) (all_out : IsWritten out o.out) (no_err : IsUnwritten err) (status_is : status ≡ 144) (count : instructions ≡ o.instructions) → Delivers report o out err status instructions
 
 -- ---- the clause

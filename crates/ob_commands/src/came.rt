@@ -5,12 +5,14 @@ use crate::answer::Answer;
 use ob_model::Ending;
 
 /// How far the program has come with a job, before the error sink is told of it: it has an answer, and the
-/// output sink has taken all that is due to it (`Due`); the output sink failed (`Cut`); or there was no
-/// memory, and nothing was done (`Starved`). With the number of instructions that were run.
+/// output sink has taken all that is due to it (`Due`); the output sink failed (`Cut`); memory was wanting in
+/// a run that keeps stores outside of objects (`Lost`); or there was no memory, and nothing was done
+/// (`Starved`). With the number of instructions that were run.
 #[derive(Clone, Copy)]
 pub enum Came {
     Due(Answer, u64),
     Cut(u64),
+    Lost(u64),
     Starved,
 }
 
@@ -21,6 +23,7 @@ impl Came {
     {
         match ending {
             Ending::WriteFault => Came::Cut(instructions),
+            Ending::NoMemory => Came::Lost(instructions),
             _ => Came::Due(Answer::Ran(ending), instructions),
         }
     }

@@ -44,6 +44,7 @@ pub fn deliver<E: Sink>(
             Err(NoMemory) => Status::new(NO_MEMORY, count),
         },
         Came::Cut(count) => Status::new(WRITE_FAULT, count),
+        Came::Lost(count) => Status::new(NO_MEMORY, count),
         Came::Starved => Status::new(NO_MEMORY, 0),
     }
 }

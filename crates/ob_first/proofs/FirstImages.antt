@@ -4,7 +4,6 @@ use Rattle.ob_flat.specs.Laws.{FieldIsRead, LayoutIsKept, OtherFieldsAreKept, Ot
 use Rattle.ob_code.specs.declared.image.Image.{Image}
 use Rattle.ob_code.specs.declared.instructions.Instr.{Instr}
 use Rattle.ob_code.specs.Rules.{IsVerified}
-use Rattle.ob_space.specs.Unbuilt.{IsBuilt}
 use Rattle.ob_tree.specs.declared.tokens.TokenKind.{TokenKind}
 use Rattle.ob_tree.specs.Programs.{ProgramTree}
 use Rattle.ob_tree.specs.ProgramSpelling.{spell_program}
@@ -19,7 +18,7 @@ use Rattle.ob_first.proofs.Sources.{few_kinds as few_kinds_of}
 use Rattle.ob_first.proofs.FirstForms.{IsRead, is_read}
 use Rattle.ob_first.proofs.FirstReadings.{at_same, read_first_form}
 use Rattle.ob_first.proofs.FirstRuns.{prints}
-use Rattle.ob_first.proofs.FirstVerified.{first_length, prints_length, verified, built}
+use Rattle.ob_first.proofs.FirstVerified.{first_length, prints_length, verified}
 
 -- a program of the first form that has few tokens prints little
 pub few_prints : (p : ProgramTree) (f : FirstForm) → HasFirstForm p f → length (spell_program p) ≤ 2 ^ 20 → length f.prints < 2 ^ 20
@@ -60,9 +59,9 @@ module _ (p : ProgramTree) (kinds : List TokenKind) (code : List Instr) (image :
   pub can_run : IsVerified image
   can_run = subst IsVerified (sym image_is) (verified what.form few_kinds)
 
-  pub has_form : (f : FirstForm) × HasFirstForm p f × (image ≡ code_of f) × IsBuilt image
+  pub has_form : (f : FirstForm) × HasFirstForm p f × (image ≡ code_of f)
   has_form =
-      (what.form, record { sums = what.sums; spelled = sym spelled ∙ what.spelled }, image_is, subst IsBuilt (sym image_is) (built what.form))
+      (what.form, record { sums = what.sums; spelled = sym spelled ∙ what.spelled }, image_is)
 
 -- ---- a text of the first form
 

@@ -25,9 +25,8 @@ use Rattle.ob_code.specs.Machine.{act_on, after, counted, get, get_number, on, r
 use Rattle.ob_code.specs.Start.{fresh, laid_out, most_instructions, run_from, started}
 use Rattle.ob_model.specs.Limits.{stack_bytes}
 use Rattle.ob_code.specs.State.{Call, Final, Setup, Space, State, goes}
-use Rattle.ob_space.specs.Kept.{HasStack}
-use Rattle.ob_space.specs.Writes.{IsOnStack, WritesWord}
-use Rattle.ob_space.proofs.StackWrites.{on_stack, opened, stack_put, writes_word}
+use Rattle.ob_frames.specs.Writes.{HasStack, IsOnStack, WritesWord}
+use Rattle.ob_frames.proofs.StackWrites.{on_stack, opened, stack_put, writes_word}
 use Rattle.ob_first.specs.FirstCode.{addend_code, body_code, first_code, main_row, only_main, print_code, return_code, sum_code}
 use Rattle.ob_first.specs.FirstForm.{FirstForm, HasSums, IsSum, byte_of, printed, sum_value}
 use Rattle.ob_first.specs.FirstRun.{Prints, RunsAs}
@@ -59,17 +58,19 @@ sum_number a b x y e f =
 abbrev main_call : ℕ → Call
 main_call link = record { function = 0; link = link; base = 16777216; first = 1 }
 
--- this code comes next, in the only frame
+-- this code comes next, in the only frame, and nothing strayed
 record IsReady (u : Setup) (here : List Instr) (s : State) : Type 0 where
   code : drop s.counter u.image.code ≡ here
   stack : HasStack s.space.memory
   link : ℕ
   calls : s.space.calls ≡ main_call link ∷ []
+  quiet : s.events ≡ []
 
 -- how a run came out
 record ComesTo (e : Ending) (out : List ℕ) (f : Final) : Type 0 where
   ending : f.ending ≡ e
   output : f.state.output ≡ out
+  quiet : f.state.events ≡ []
 
 -- a run from a state comes out so, whatever more instructions it may do than the code has
 abbrev Ends : Setup → List Instr → Ending → List ℕ → State → Type 0
@@ -101,6 +102,7 @@ module _ (u : Setup) (read : FieldIsRead) (others : OtherFieldsAreKept) (layout 
         stack = stack_put s.space.memory (top_base s.space.calls + 8 * a) w layout r.stack (word_inside u (i ∷ here) s a r small);
         link = r.link;
         calls = r.calls;
+        quiet = r.quiet;
       }
 
   writes : (here : List Instr) (s : State) (a w : ℕ) → IsReady u here s → a < 4 → w < 2 ^ 64 → WritesWord (top_base s.space.calls + 8 * a) w s.space.memory (with_field s.space.memory (top_base s.space.calls + 8 * a) 8 w)
@@ -160,7 +162,7 @@ module _ (u : Setup) (read : FieldIsRead) (others : OtherFieldsAreKept) (layout 
   put_runs here e out s v n r value left next =
       let byte = get s 2 % 256 in
       let told : State = record s { steps = n; output = s.output ++ byte ∷ [] } in
-      let ready : IsReady u (PutChar 3 2 ∷ here) told = record { code = r.code; stack = r.stack; link = r.link; calls = r.calls } in
+      let ready : IsReady u (PutChar 3 2 ∷ here) told = record { code = r.code; stack = r.stack; link = r.link; calls = r.calls; quiet = r.quiet } in
       let takes : step u s ≡ goes (wrote told 3 byte) = step_is u (PutChar 3 2) here s r ∙ ap (λ k. act_on u (Some (PutChar 3 2)) (record (counted s) { steps = k })) left in
       let wrote_byte : s.output ++ byte ∷ [] ≡ s.output ++ byte_of v ∷ [] = ap (λ b. s.output ++ b ∷ []) (low_byte (get s 2) ∙ ap byte_of value) in
       by_step u (PutChar 3 2) here e out s (wrote told 3 byte) takes (next (wrote told 3 byte) (ready_behind (PutChar 3 2) here told 3 byte ready (lit< tt)) refl wrote_byte)
@@ -183,7 +185,7 @@ module _ (u : Setup) (read : FieldIsRead) (others : OtherFieldsAreKept) (layout 
   return_runs s v r value zero few = absurd (omega arith)
   return_runs s v r value (suc fuel) few =
       let returns : (calls : List Call) → calls ≡ main_call r.link ∷ [] → ComesTo (Ended v) s.output (after (returned u.image calls (get s 2) (counted s)) (runs u fuel)) =
-      λ calls is. subst (λ cs. ComesTo (Ended v) s.output (after (returned u.image cs (get s 2) (counted s)) (runs u fuel))) (sym is) (record { ending = ap Ended value; output = refl }) in
+      λ calls is. subst (λ cs. ComesTo (Ended v) s.output (after (returned u.image cs (get s 2) (counted s)) (runs u fuel))) (sym is) (record { ending = ap Ended value; output = refl; quiet = r.quiet }) in
       subst (λ x. ComesTo (Ended v) s.output (after x (runs u fuel))) (sym (step_is u (Return 2) [] s r)) (returns s.space.calls r.calls)
 
   result_runs : (constants : List ℕ) (s : State) → IsSum constants → IsReady u (return_code constants) s → Ends u (return_code constants) (Ended (sum_value constants)) s.output s
@@ -219,7 +221,6 @@ module _ (u : Setup) (read : FieldIsRead) (others : OtherFieldsAreKept) (layout 
 zeroed_stack : (heap : ℕ) → heap ≤ 67108864 → HasStack (zeroed 0 1048576 heap)
 zeroed_stack heap few =
     record {
-      statics = refl;
       stack = refl;
       laid_out = record {
         statics = lit≤ tt;
@@ -255,6 +256,7 @@ module _ (f : FirstForm) (settings : RunSettings) (cycle : List ℕ) (place : �
         stack = (opened 16777216 32 (length (first_code f)) 0 space.memory read others zeros layout (zeroed_stack settings.heap heap) inside (lit≤ tt) short (lit< tt)).stack;
         link = length (first_code f);
         calls = refl;
+        quiet = refl;
       }
 
   whole_run : (steps : ℕ) → FieldIsRead → OtherFieldsAreKept → OthersAreKeptByZeros → LayoutIsKept → HasSums f → IsFit settings → length (first_code f) < 2 ^ 64 → length f.prints ≤ steps → RunsAs f (run_from setup space place input (suc steps))
@@ -263,7 +265,7 @@ module _ (f : FirstForm) (settings : RunSettings) (cycle : List ℕ) (place : �
       let enough : length (first_code f) ≤ most_instructions image (suc steps) = omega arith in
       let run : ComesTo (Ended (sum_value f.result)) (printed f) (runs setup (most_instructions image (suc steps)) (first steps)) =
       body_runs setup read others layout f.prints f.result (first steps) sums.prints sums.result ready few (most_instructions image (suc steps)) enough in
-      subst (λ x. RunsAs f (after x (runs setup (most_instructions image (suc steps))))) (sym (starts steps)) (record { ending = run.ending; output = run.output })
+      subst (λ x. RunsAs f (after x (runs setup (most_instructions image (suc steps))))) (sym (starts steps)) (record { ending = run.ending; output = run.output; quiet = run.quiet })
 
 pub prints : (f : FirstForm) → FieldIsRead → OtherFieldsAreKept → OthersAreKeptByZeros → LayoutIsKept → HasSums f → length (first_code f) < 2 ^ 64 → Prints (only_main (first_code f)) f
 prints f read others zeros layout sums short settings cycle place input input_end zero fit few = absurd (omega arith)

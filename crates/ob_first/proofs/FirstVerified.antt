@@ -10,7 +10,6 @@ use Rattle.ob_code.specs.declared.instructions.Instr.{Instr}
 use Rattle.ob_code.specs.declared.instructions.Instr.TheVariants.{Tick, PutChar, Return}
 use Rattle.ob_code.specs.FirstFault.{IsFaultAt, IsFaultIn, IsFirstFault, too_many, broken}
 use Rattle.ob_code.specs.Rules.{AreOperandsSound, IsCodeSound, IsFrameSound, IsFunctionSound, IsInstructionSound, IsLast, IsVerified}
-use Rattle.ob_space.specs.Unbuilt.{IsBuilt, IsFunctionBuilt, IsInstructionBuilt}
 use Rattle.ob_tree.specs.declared.tokens.TokenKind.TheVariants as kind
 use Rattle.ob_tree.specs.declared.tokens.Sign.TheVariants as signs
 use Rattle.ob_first.specs.FirstCode.{addend_code, body_code, first_code, main_row, only_main, print_code, return_code, sum_code}
@@ -37,9 +36,9 @@ no_fault image bad r f = no_fault_in bad.part image bad.at r f
 
 -- ---- each instruction is sound, and the last one goes nowhere on
 
--- an instruction whose words are in the frame and that the machine runs
+-- an instruction whose words are in the frame
 abbrev Fits : List Instr → Instr → Type 0
-Fits code i = AreOperandsSound (only_main code) 0 i × IsInstructionBuilt i
+Fits code i = AreOperandsSound (only_main code) 0 i
 
 all_append : (P : Instr → Type 0) (xs ys : List Instr) → AllByRecursion P xs → AllByRecursion P ys → AllByRecursion P (xs ++ ys)
 all_append P [] ys p q = q
@@ -58,17 +57,17 @@ in_three = (omega arith, omega arith)
 
 addends_fit : (code : List Instr) (cs : List ℕ) → AllByRecursion (Fits code) (flat_map addend_code cs)
 addends_fit code [] = tt
-addends_fit code (c ∷ cs) = ((in_three, tt), (((in_two, omega arith, omega arith), tt), addends_fit code cs))
+addends_fit code (c ∷ cs) = (in_three, ((in_two, omega arith, omega arith), addends_fit code cs))
 
 sum_fits : (code : List Instr) (cs : List ℕ) → AllByRecursion (Fits code) (sum_code cs)
 sum_fits code [] = tt
-sum_fits code (c ∷ cs) = ((in_two, tt), addends_fit code cs)
+sum_fits code (c ∷ cs) = (in_two, addends_fit code cs)
 
 print_fits : (code : List Instr) (cs : List ℕ) → AllByRecursion (Fits code) (print_code cs)
-print_fits code cs = all_append (Fits code) (sum_code cs) _ (sum_fits code cs) (((in_three, omega arith), tt), tt)
+print_fits code cs = all_append (Fits code) (sum_code cs) _ (sum_fits code cs) ((in_three, omega arith), tt)
 
 body_fits : (code : List Instr) (prints : List (List ℕ)) (result : List ℕ) → AllByRecursion (Fits code) (body_code prints result)
-body_fits code [] result = all_append (Fits code) (sum_code result) _ (sum_fits code result) ((omega arith, tt), tt)
+body_fits code [] result = all_append (Fits code) (sum_code result) _ (sum_fits code result) (omega arith, tt)
 body_fits code (cs ∷ more) result =
     subst (AllByRecursion (Fits code)) (sym (append_assoc (print_code cs) (flat_map print_code more) (return_code result)))
     (all_append (Fits code) (print_code cs) (body_code more result) (print_fits code cs) (body_fits code more result))
@@ -140,9 +139,6 @@ function_sound f i h =
       frame = frame_sound;
     })
 
-function_built : (code : List Instr) (i : ℕ) → i < 1 → IsFunctionBuilt (only_main code) i
-function_built code i h = let zero_is : 0 ≡ i = omega arith in subst (λ k. IsFunctionBuilt (only_main code) k) zero_is refl
-
 fits_at : (f : FirstForm) (i : ℕ) → i < length (first_code f) → Fits (first_code f) (slice_index_or (first_code f) i Tick)
 fits_at f i h = all_at (Fits (first_code f)) (first_code f) i (body_fits (first_code f) f.prints f.result) h
 
@@ -153,7 +149,7 @@ is_last f i e =
     subst P (sym (code_is f)) (subst IsLast (sym (last_at before i (e ∙ ap length (code_is f)))) tt)
 
 instruction_sound : (f : FirstForm) (i : ℕ) → i < length (first_code f) → IsInstructionSound (only_main (first_code f)) 0 i
-instruction_sound f i h = record { operands = (fits_at f i h).0; last = is_last f i }
+instruction_sound f i h = record { operands = fits_at f i h; last = is_last f i }
 
 code_sound : (f : FirstForm) (i : ℕ) → i < length (first_code f) → IsCodeSound (only_main (first_code f)) i
 code_sound f i h g of = let zero_is : 0 ≡ g = omega (arith, of.is_function) in subst (λ k. IsInstructionSound (only_main (first_code f)) k i) zero_is (instruction_sound f i h)
@@ -167,7 +163,3 @@ verified f few = record {
   code = record { most = omega (arith, first_length f); each = code_sound f };
   names = record { most = lit≤ tt; each = λ i h. absurd (omega arith) };
 }
-
--- the machine runs all of it
-pub built : (f : FirstForm) → IsBuilt (only_main (first_code f))
-built f = record { statics = refl; functions = function_built (first_code f); code = λ i h. (fits_at f i h).1 }

@@ -1,5 +1,5 @@
 -- An image that runs as a program of the first form does.
-use Rattle.std.specs.Prelude.{◌≡◌, ℕ, ◌<◌, List, length}
+use Rattle.std.specs.Prelude.{◌≡◌, ℕ, ◌<◌, List, [], length}
 use Rattle.ob_model.specs.declared.endings.Ending.TheVariants.{Ended}
 use Rattle.ob_model.specs.declared.settings.RunSettings.{RunSettings}
 use Rattle.ob_model.specs.Endings.{InputEnd}
@@ -9,10 +9,11 @@ use Rattle.ob_code.specs.Start.{flat_final}
 use Rattle.ob_code.specs.State.{Final}
 use Rattle.ob_first.specs.FirstForm.{FirstForm, printed, sum_value}
 
--- a run ended with the result's value and wrote what is printed
+-- a run ended with the result's value and wrote what is printed, and nothing of it strayed from an object
 pub record RunsAs (f : FirstForm) (final : Final) : Type 0 where
   pub ending : final.ending ≡ Ended (sum_value f.result)
   pub output : final.state.output ≡ printed f
+  pub quiet : final.state.events ≡ []
 
 -- whatever the settings, the input and the place in a cycle of manufactured values are, where there is a step for each print and
 -- one for `main`

@@ -2,7 +2,6 @@
 -- can't be compiled yet; or a program that is compiled.
 use Rattle.std.specs.Prelude.{◌≡◌, ℕ, ◌≤◌, ◌<◌, ◌^◌, List, [], length, take, Option, Some, None, slice_get}
 use Rattle.ob_code.specs.declared.image.Image.{Image}
-use Rattle.ob_space.specs.Unbuilt.{IsBuilt}
 use Rattle.ob_tree.specs.Programs.{ProgramTree}
 use Rattle.ob_tree.specs.declared.tokens.Span.{Span}
 use Rattle.ob_tree.specs.declared.tokens.Token.{Token}
@@ -114,12 +113,11 @@ abbrev pub Refuses : List ℕ → Refusal → Type 0
 Refuses text (Fault fault) = MayHaveFault text fault
 Refuses text NotYet = IsOfNoForm text
 
--- the image is that of the text, and the machine runs all of it
+-- the image is that of the text
 pub record IsCompiled (text : List ℕ) (image : Image) : Type 0 where
   pub form : FirstForm
   pub is_form : IsOfForm text form
   pub image_is : image ≡ code_of form
-  pub built : IsBuilt image
 
 -- ---- laws
 
@@ -130,7 +128,3 @@ FirstFormsRun = (text : List ℕ) (form : FirstForm) → length text ≤ 2 ^ 20 
 -- a source has fewer prints than bytes it may have
 abbrev pub PrintsAreFew : Type 0
 PrintsAreFew = (text : List ℕ) (form : FirstForm) → length text ≤ 2 ^ 20 → IsOfForm text form → length form.prints < 2 ^ 20
-
--- the machine runs all of the image of a source
-abbrev pub FirstFormsAreBuilt : Type 0
-FirstFormsAreBuilt = (form : FirstForm) → IsBuilt (code_of form)

@@ -3,7 +3,6 @@
 ghost use Rattle.std.specs.Prelude.{◌≡◌, ◌≢◌, ◌≤◌, ◌^◌, ◌++◌, List, IfOk, OnOk, MatchOption, Some, length};
 ghost use Rattle.ob_code.specs.declared.instructions.Instr.{Instr as Instruction};
 ghost use Rattle.ob_code.specs.Rules.{IsVerified};
-ghost use Rattle.ob_space.specs.Unbuilt.{IsBuilt};
 ghost use Rattle.ob_tree.specs.ProgramSpelling.{spell_program};
 ghost use Rattle.ob_tree.specs.ProgramView.{program_tree};
 ghost use Rattle.ob_first.specs.FirstForm.{FirstForm, HasFirstForm};
@@ -254,7 +253,7 @@ pub(crate) fn first_image(alloc: Global, program: &Program) -> Result<Option<Ver
     requires { length (spell_program (program_tree program.now)) ≤ 2 ^ 20 }
     ensures { IfOk result (λ o. MatchOption o
         ((f : FirstForm) → ¬ HasFirstForm (program_tree program.now) f)
-        (λ v. (f : FirstForm) × HasFirstForm (program_tree program.now) f × (v ≡ code_of f) × IsBuilt v)) }
+        (λ v. (f : FirstForm) × HasFirstForm (program_tree program.now) f × (v ≡ code_of f))) }
 {
     let kinds = spell(alloc, program)?;
     let Some(code) = read_code(alloc, &kinds)? else {

@@ -1,5 +1,5 @@
 ghost use Rattle.std.specs.Prelude.{◌≡◌, ℕ, ◌≤◌, ◌^◌, List, length};
-ghost use Rattle.ob_first.specs.Sources.{ComesTo, FirstFormsAreBuilt, FirstFormsRun, Outcome, PrintsAreFew};
+ghost use Rattle.ob_first.specs.Sources.{ComesTo, FirstFormsRun, Outcome, PrintsAreFew};
 
 use ob_flat::laws::{law_fields, law_layout, law_zeros};
 
@@ -15,12 +15,11 @@ pub fn law_one_outcome()
 {}
 
 /// The image of a source writes what its program prints and ends with its result, whatever the settings,
-/// the input and the manufactured values are, where there are more steps than prints; and a source has
-/// fewer than 1,048,576 of them. The machine runs all of each such image.
+/// the input and the manufactured values are, where there are more steps than prints, and nothing of it
+/// strays from an object; and a source has fewer than 1,048,576 of them.
 pub fn law_first_runs()
     ensures runs { FirstFormsRun }
     ensures few { PrintsAreFew }
-    ensures built { FirstFormsAreBuilt }
 {
     law_fields();
     law_zeros();

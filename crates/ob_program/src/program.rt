@@ -13,6 +13,35 @@ use ob_settings::{Job, Verb, WordsFault, law_jobs};
 use ob_watch::Watcher;
 use std::alloc::Global;
 
+/// Does a job that runs an image or a source, but for what the error sink is told.
+fn perform_run<F: Folder, S: Source, K: Sink, M: Maker, W: Watcher>(
+    alloc: Global,
+    job: &Job,
+    name: &str,
+    maker: &mut M,
+    watchers: &mut Vec<W>,
+    folder: &mut F,
+    input: &mut S,
+    out: &mut K,
+) -> Came
+    requires fit { IsFit job.now.settings }
+    requires steps { job.now.steps ≤ 1000000000 }
+    requires named { name.now ≡ job.now.argument }
+    ensures { CameTo (record { job = job.now; supply = record { cycle = M.cycle maker.old; place = M.place maker.old }; watchers = map (λ w. record { capacity = W.capacity w; kept = W.kept w; total = W.told w }) watchers.old.items })
+        (map (λ w. record { capacity = W.capacity w; kept = W.kept w; total = W.told w }) watchers.new.items)
+        (λ o. ComesOf first_forms job.now.verb (record { job = job.now; supply = record { cycle = M.cycle maker.old; place = M.place maker.old }; watchers = map (λ w. record { capacity = W.capacity w; kept = W.kept w; total = W.told w }) watchers.old.items }) (record { files = F.files folder.old; faults_before = F.faults folder.old; faults_now = F.faults folder.new }) (record { left_before = S.left input.old; left_now = S.left input.new; faults_before = S.faults input.old; faults_now = S.faults input.new }) o)
+        (IsIdle (record { files = F.files folder.old; faults_before = F.faults folder.old; faults_now = F.faults folder.new }) (record { left_before = S.left input.old; left_now = S.left input.new; faults_before = S.faults input.old; faults_now = S.faults input.new }))
+        result
+        (record { taken_before = K.taken out.old; taken_now = K.taken out.new; tally_before = K.tally out.old; tally_now = K.tally out.new; faults_before = K.faults out.old; faults_now = K.faults out.new }) }
+{
+    match job.verb {
+        Verb::Run => run(alloc, job, name, maker, watchers, folder, out),
+        Verb::Exec => exec(alloc, job, name, maker, watchers, folder, input, out),
+        Verb::Migrate => migrate(alloc, job, name, folder, out),
+        _ => Came::Due(Answer::NotYet, 0),
+    }
+}
+
 /// Does a job, but for what the error sink is told.
 fn perform<F: Folder, S: Source, K: Sink>(
     alloc: Global,

@@ -15,3 +15,11 @@ kept_after capacity kept e = if nat_lt (length kept) capacity then kept ++ e ∷
 -- the count stays at the greatest number of 64 bits
 abbrev pub total_after : ℕ → ℕ
 total_after total = min (total + 1) (2 ^ 64 - 1)
+
+-- a watcher that is told an event, and several one after another
+abbrev pub after_event : Watch → StrayEvent → Watch
+after_event w e = record w { kept = kept_after w.capacity w.kept e; total = total_after w.total }
+
+abbrev pub after_events : List StrayEvent → Watch → Watch
+after_events [] w = w
+after_events (e ∷ es) w = after_events es (after_event w e)

@@ -1,5 +1,4 @@
 use Rattle.ob_first.proofs.FirstImages.{few_of_text, runs_of_text}
-use Rattle.ob_first.proofs.FirstVerified.{built}
 use Rattle.ob_first.proofs.laws.law_first_runs.Goals as goal
 
 pub returns-clause-runs : goal.returns-clause-runs
@@ -7,6 +6,3 @@ returns-clause-runs c = runs_of_text c.law_fields.ensures.read c.law_fields.ensu
 
 pub returns-clause-few : goal.returns-clause-few
 returns-clause-few c = few_of_text
-
-pub returns-clause-built : goal.returns-clause-built
-returns-clause-built c = built
