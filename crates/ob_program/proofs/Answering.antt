@@ -1,88 +1,111 @@
 -- What a job came to, by its command, and that it was answered.
-use Rattle.std.proofs.Common.{◌≡◌, ℕ, zero, suc, ◌<◌, List, [], ◌∷◌, length, get_or, map, true, refl, sym, ap, ◌∙◌, subst, arith}
-use Rattle.std.specs.Prelude.{slice_index_or, ⊤}
-use Rattle.ob_base.specs.Devices.{Loading, Reading, Writing, IsUnread, IsUnwritten}
+use Rattle.std.proofs.Common.{◌≡◌, ℕ, zero, suc, ◌<◌, Bool, true, false, List, [], ◌∷◌, length, get_or, map, refl, sym, ap, ◌∙◌, subst, arith}
+use Rattle.std.specs.Prelude.{slice_index_or}
+use Rattle.ob_base.specs.Devices.{Loading, Reading, Writing, IsUnwritten}
 use Rattle.std.proofs.lemmas.List.{length-map}
 use Rattle.ob_watch.specs.Watching.{Watch}
-use Rattle.ob_settings.specs.Jobs.{ArgumentsStandThere, IsJobFor, IsJobOf, has_maker}
+use Rattle.ob_settings.specs.Jobs.{ArgumentsStandThere, AsksForJob, IsJobFor, IsJobOf, IsUsageFor}
 use Rattle.ob_settings.specs.declared.job.Job.{Job}
+use Rattle.ob_settings.specs.declared.job.WordsFault.{WordsFault}
+use Rattle.ob_settings.specs.declared.job.WordsFault.TheVariants as words_fault
 use Rattle.ob_settings.specs.declared.verb.Verb.{Verb}
 use Rattle.ob_settings.specs.declared.verb.Verb.TheVariants as verb
 use Rattle.ob_commands.specs.declared.answer.Answer.TheVariants.{NotYet}
 use Rattle.ob_commands.specs.declared.came.Came.{Came}
 use Rattle.ob_commands.specs.declared.came.Came.TheVariants.{Due}
-use Rattle.ob_commands.specs.Run.{Run}
-use Rattle.ob_commands.specs.Exec.{Exec}
-use Rattle.ob_commands.specs.Migrate.{Migrate}
-use Rattle.ob_commands.specs.Parts.{Supply, no_supply}
-use Rattle.ob_commands.specs.Top.{Answers, ComesOf, Devices, Handed, IsIdle, OnImage, OnSource}
-use Rattle.ob_commands.specs.Delivery.{CameFor, Delivered, IsAny, Stands, StandsFor, TakesMaker, ask_for}
+use Rattle.ob_commands.specs.Parts.{Asked, Supply, asked, no_supply}
+use Rattle.ob_commands.specs.Top.{Answers, ComesOf, Devices, Handed, IsIdle}
+use Rattle.ob_commands.specs.Delivery.{CameTo, Delivered, TakesMaker}
 use Rattle.ob_commands.proofs.Coming.{why}
-use Rattle.ob_commands.proofs.Delivering.{job_answers}
+use Rattle.ob_commands.proofs.Delivering.{helpless_answers, job_answers, usage_answers}
 use Rattle.ob_commands.proofs.Makers.{maker_there}
 use Rattle.ob_program.specs.Language.{first_forms}
+use Rattle.ob_program.specs.Refusals.{came_of_fault, runs}
 
 -- ---- by its command
 
--- what the job with this command came to
-abbrev pub Does : Job → Verb → Loading → Reading → Came → Writing → Type 0
-Does job v l r c w = CameFor job (StandsFor v) (λ a o. ComesOf first_forms v a l r o) (IsIdle l r) c w
+-- what a job came to with the command that it has
+pub as_verb : (v x : Verb) (a : Asked) (seen : List Watch) (l : Loading) (r : Reading) (c : Came) (w : Writing) → v ≡ x → CameTo a seen (λ o. ComesOf first_forms x a l r o) (IsIdle l r) c w →
+    CameTo a seen (λ o. ComesOf first_forms v a l r o) (IsIdle l r) c w
+as_verb v x a seen l r c w is it = subst (λ y. CameTo a seen (λ o. ComesOf first_forms y a l r o) (IsIdle l r) c w) (sym is) it
 
-pub as_run : (job : Job) (l : Loading) (r : Reading) (c : Came) (w : Writing) → job.verb ≡ verb.Run → CameFor job Stands (λ a o. OnSource a l r o (λ source. Run first_forms a source r o)) (IsIdle l r) c w → Does job job.verb l r c w
-as_run job l r c w is it = subst (λ v. Does job v l r c w) (sym is) (λ supply watchers stands. it supply watchers (stands tt))
+pub alone : (v : Verb) → (v ≡ verb.Run → ⊥) → (v ≡ verb.Exec → ⊥) → runs v ≡ false
+alone verb.Run run exec = absurd (run refl)
+alone verb.Exec run exec = absurd (exec refl)
+alone verb.Compile run exec = refl
+alone verb.Check run exec = refl
+alone verb.Audit run exec = refl
+alone verb.Sample run exec = refl
+alone verb.Migrate run exec = refl
 
-pub as_exec : (job : Job) (l : Loading) (r : Reading) (c : Came) (w : Writing) → job.verb ≡ verb.Exec → CameFor job Stands (λ a o. OnImage a l r o (λ bytes. Exec a bytes r o)) (IsIdle l r) c w → Does job job.verb l r c w
-as_exec job l r c w is it = subst (λ v. Does job v l r c w) (sym is) (λ supply watchers stands. it supply watchers (stands tt))
-
-pub as_migrate : (job : Job) (l : Loading) (r : Reading) (c : Came) (w : Writing) → job.verb ≡ verb.Migrate → CameFor job IsAny (λ a o. OnImage a l r o (λ bytes. Migrate a bytes r o)) (IsIdle l r) c w → Does job job.verb l r c w
-as_migrate job l r c w is it = subst (λ v. Does job v l r c w) (sym is) (λ supply watchers stands. it supply watchers tt)
+never : (b : Bool) → true ≡ false → ⊥
+never b is = cc
 
 -- commands that aren't there yet
-abbrev IsLaterVerb : Verb → Type 0
-IsLaterVerb verb.Compile = ⊤
-IsLaterVerb verb.Check = ⊤
-IsLaterVerb verb.Audit = ⊤
-IsLaterVerb verb.Sample = ⊤
-IsLaterVerb verb.Run = ⊥
-IsLaterVerb verb.Exec = ⊥
-IsLaterVerb verb.Migrate = ⊥
+pub later : (a : Asked) (seen : List Watch) (l : Loading) (r : Reading) (w : Writing) (v : Verb) → runs v ≡ false → (v ≡ verb.Migrate → ⊥) → IsIdle l r → IsUnwritten w →
+    CameTo a seen (λ o. ComesOf first_forms v a l r o) (IsIdle l r) (Due NotYet 0) w
+later a seen l r w verb.Run none other idle quiet = absurd (never true none)
+later a seen l r w verb.Exec none other idle quiet = absurd (never true none)
+later a seen l r w verb.Migrate none other idle quiet = absurd (other refl)
+later a seen l r w verb.Compile none other idle quiet = why a seen _ NotYet 0 w refl quiet refl (record { idle = idle; is = refl })
+later a seen l r w verb.Check none other idle quiet = why a seen _ NotYet 0 w refl quiet refl (record { idle = idle; is = refl })
+later a seen l r w verb.Audit none other idle quiet = why a seen _ NotYet 0 w refl quiet refl (record { idle = idle; is = refl })
+later a seen l r w verb.Sample none other idle quiet = why a seen _ NotYet 0 w refl quiet refl (record { idle = idle; is = refl })
 
-later_by : (job : Job) (l : Loading) (r : Reading) (w : Writing) (v : Verb) → IsLaterVerb v → IsIdle l r → IsUnwritten w → Does job v l r (Due NotYet 0) w
-later_by job l r w verb.Compile later idle quiet = λ supply watchers stands. why (ask_for job supply watchers) _ NotYet 0 w refl quiet refl (record { idle = idle; is = refl })
-later_by job l r w verb.Check later idle quiet = λ supply watchers stands. why (ask_for job supply watchers) _ NotYet 0 w refl quiet refl (record { idle = idle; is = refl })
-later_by job l r w verb.Audit later idle quiet = λ supply watchers stands. why (ask_for job supply watchers) _ NotYet 0 w refl quiet refl (record { idle = idle; is = refl })
-later_by job l r w verb.Sample later idle quiet = λ supply watchers stands. why (ask_for job supply watchers) _ NotYet 0 w refl quiet refl (record { idle = idle; is = refl })
-later_by job l r w verb.Run later idle quiet = absurd later
-later_by job l r w verb.Exec later idle quiet = absurd later
-later_by job l r w verb.Migrate later idle quiet = absurd later
+takes_maker : (v : Verb) → runs v ≡ true → TakesMaker v
+takes_maker verb.Run is = tt
+takes_maker verb.Exec is = tt
+takes_maker verb.Compile is = absurd (never true (sym is))
+takes_maker verb.Check is = absurd (never true (sym is))
+takes_maker verb.Audit is = tt
+takes_maker verb.Sample is = tt
+takes_maker verb.Migrate is = absurd (never true (sym is))
 
-pub as_later : (job : Job) (l : Loading) (r : Reading) (w : Writing) (v : Verb) → job.verb ≡ v → IsLaterVerb v → IsIdle l r → IsUnwritten w → Does job job.verb l r (Due NotYet 0) w
-as_later job l r w v is later idle quiet = subst (λ x. Does job x l r (Due NotYet 0) w) (sym is) (later_by job l r w v later idle quiet)
+-- the maker of a job that runs something is there
+pub maker_inside : (job : Job) (makers : ℕ) (words : List (List ℕ)) → IsJobFor makers words job → runs job.verb ≡ true → job.maker < makers
+maker_inside job makers words asks is = maker_there job makers (takes_maker job.verb is) asks.maker
 
--- ---- the argument's word
+-- ---- the argument's word, and the maker
 
-word_at : {S : Type 0} (f : S → List ℕ) (items : List S) (k : ℕ) (w : S) → k < length items → w ≡ get_or items k w → f w ≡ get_or (map f items) k []
-word_at f [] k w inside is = absurd (omega arith)
-word_at f (x ∷ items) zero w inside is = ap f is
-word_at f (x ∷ items) (suc k) w inside is = word_at f items k w (omega arith) is
+item_at : {S T : Type 0} (f : S → T) (items : List S) (k : ℕ) (w : S) (d : T) → k < length items → w ≡ get_or items k w → f w ≡ get_or (map f items) k d
+item_at f [] k w d inside is = absurd (omega arith)
+item_at f (x ∷ items) zero w d inside is = ap f is
+item_at f (x ∷ items) (suc k) w d inside is = item_at f items k w d (omega arith) is
 
 pub named : {S : Type 0} (f : S → List ℕ) (items : List S) (job : Job) (w : S) (name : List ℕ) → ArgumentsStandThere → IsJobOf (map f items) job → name ≡ f w → w ≡ get_or items job.at w → name ≡ job.argument
 named f items job w name places asked name_is is =
     let there = places (map f items) job asked in
     let inside : job.at < length items = subst (λ n. job.at < n) (length-map items f) there.0 in
-    name_is ∙ word_at f items job.at w inside is ∙ there.1
+    name_is ∙ item_at f items job.at w [] inside is ∙ there.1
 
 -- ---- answers
 
-stands_for : (supplies : List Supply) (count at : ℕ) (job : Job) → at ≡ job.maker → has_maker job count ≡ true → (at < count → Stands (slice_index_or supplies at no_supply)) → TakesMaker job.verb → Stands (slice_index_or supplies job.maker no_supply)
-stands_for supplies count at job same has stands takes =
-    subst (λ n. Stands (slice_index_or supplies n no_supply)) same (stands (subst (λ n. n < count) (sym same) (maker_there job count takes has)))
-
-pub answered : {M : Type 0} (f : M → Supply) (makers : List M) (words : List (List ℕ)) (watchers : List Watch) (d : Devices) (job : Job) (c : Came) (s k at : ℕ) (name : List ℕ) → IsJobFor (length makers) words job → name ≡ job.argument → at ≡ job.maker →
-    (at < length makers → Stands (slice_index_or (map f makers) at no_supply)) → Does job job.verb d.folder d.input c d.out → Delivered name job.report watchers c d.err s k →
+-- a job that was answered, by what it came to
+pub answered : {M : Type 0} (f : M → Supply) (makers : List M) (count : ℕ) (words : List (List ℕ)) (watchers seen : List Watch) (d : Devices) (job : Job) (c : Came) (s k : ℕ) (name : List ℕ) →
+    count ≡ length makers → IsJobFor count words job → name ≡ job.argument →
+    CameTo (asked job (map f makers) watchers) seen (λ o. ComesOf first_forms job.verb (asked job (map f makers) watchers) d.folder d.input o) (IsIdle d.folder d.input) c d.out → Delivered name job.report seen c d.err s k →
     Answers first_forms (record { words = words; makers = map f makers; watchers = watchers }) d s k
-answered f makers words watchers d job c s k at name asks named_so same stands came told =
+answered f makers count words watchers seen d job c s k name count_is asks named_so came told =
     let h : Handed = record { words = words; makers = map f makers; watchers = watchers } in
-    let asks_here : IsJobFor (length h.makers) words job = subst (λ n. IsJobFor n words job) (sym (length-map makers f)) asks in
-    let supply_stands : TakesMaker job.verb → Stands (slice_index_or h.makers job.maker no_supply) = stands_for h.makers (length makers) at job same asks.maker stands in
-    job_answers first_forms h d job c s k asks_here (came (slice_index_or h.makers job.maker no_supply) watchers supply_stands) (subst (λ n. Delivered n job.report watchers c d.err s k) named_so told)
+    let asks_here : IsJobFor (length h.makers) words job = subst (λ n. IsJobFor n words job) (count_is ∙ sym (length-map makers f)) asks in
+    job_answers first_forms h d job seen c s k asks_here came (subst (λ n. Delivered n job.report seen c d.err s k) named_so told)
+
+-- with its maker
+pub answered_with : {M : Type 0} (f : M → Supply) (makers : List M) (count at : ℕ) (maker : M) (words : List (List ℕ)) (watchers seen : List Watch) (d : Devices) (job : Job) (c : Came) (s k : ℕ) (name : List ℕ) →
+    count ≡ length makers → IsJobFor count words job → name ≡ job.argument → at ≡ job.maker → at < length makers → maker ≡ get_or makers at maker →
+    CameTo (record { job = job; supply = f maker; watchers = watchers }) seen (λ o. ComesOf first_forms job.verb (record { job = job; supply = f maker; watchers = watchers }) d.folder d.input o) (IsIdle d.folder d.input) c d.out →
+    Delivered name job.report seen c d.err s k → Answers first_forms (record { words = words; makers = map f makers; watchers = watchers }) d s k
+answered_with f makers count at maker words watchers seen d job c s k name count_is asks named_so at_is inside is came told =
+    let supply_is : f maker ≡ slice_index_or (map f makers) job.maker no_supply = item_at f makers at maker no_supply inside is ∙ ap (λ n. slice_index_or (map f makers) n no_supply) at_is in
+    answered f makers count words watchers seen d job c s k name count_is asks named_so
+    (subst (λ supply. let a : Asked = record { job = job; supply = supply; watchers = watchers } in CameTo a seen (λ o. ComesOf first_forms job.verb a d.folder d.input o) (IsIdle d.folder d.input) c d.out) supply_is came) told
+
+-- words that ask for none, or for one for which there is no memory
+pub refused_words : {M : Type 0} (f : M → Supply) (makers : List M) (count : ℕ) (words : List (List ℕ)) (watchers seen : List Watch) (d : Devices) (fault : WordsFault) (s k : ℕ) →
+    count ≡ length makers → (fault ≡ words_fault.Usage → IsUsageFor count words) → (fault ≡ words_fault.NoMemory → AsksForJob words) → IsIdle d.folder d.input → IsUnwritten d.out →
+    Delivered [] false seen (came_of_fault fault) d.err s k → Answers first_forms (record { words = words; makers = map f makers; watchers = watchers }) d s k
+refused_words f makers count words watchers seen d words_fault.Usage s k count_is usage asks idle quiet told =
+    usage_answers first_forms (record { words = words; makers = map f makers; watchers = watchers }) d seen s k
+    (subst (λ n. IsUsageFor n words) (count_is ∙ sym (length-map makers f)) (usage refl)) idle quiet told
+refused_words f makers count words watchers seen d words_fault.NoMemory s k count_is usage asks idle quiet told =
+    helpless_answers first_forms (record { words = words; makers = map f makers; watchers = watchers }) d seen s k (asks refl) idle quiet told

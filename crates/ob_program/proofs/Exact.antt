@@ -1,5 +1,5 @@
 -- Sources of the first form come to one outcome each, and what they write is what they say.
-use Rattle.std.proofs.Common.{◌≡◌, ℕ, ◌<◌, ◌≤◌, ◌⊎◌, Bool, true, false, cond, List, [], ◌++◌, length, refl, sym, ap, ◌∙◌, subst, inl, inr}
+use Rattle.std.proofs.Common.{◌≡◌, ℕ, ◌<◌, ◌≤◌, ◌⊎◌, Bool, true, false, cond, List, [], ◌∷◌, ◌++◌, length, refl, sym, ap, ◌∙◌, subst, inl, inr}
 use Rattle.std.specs.Prelude.{◌==◌, map}
 use Rattle.ob_base.specs.Devices.{IsWritten}
 use Rattle.ob_model.specs.Endings as endings
@@ -9,21 +9,21 @@ use Rattle.ob_model.specs.declared.endings.Ending.TheVariants.{Ended}
 use Rattle.ob_model.specs.declared.settings.Profile.{Profile}
 use Rattle.ob_model.specs.declared.settings.RunSettings.{RunSettings}
 use Rattle.ob_code.specs.State.{Final}
-use Rattle.ob_space.specs.Unbuilt.{IsBuilt}
 use Rattle.ob_report.specs.Lines.{ending_line}
 use Rattle.ob_tree.specs.declared.faults.SourceFault.{SourceFault}
 use Rattle.ob_first.specs.FirstCode.{code_of}
 use Rattle.ob_first.specs.FirstForm.{FirstForm, printed, sum_value}
 use Rattle.ob_first.specs.Sources as sources
-use Rattle.ob_first.specs.Sources.{FirstFormsRun, FirstFormsAreBuilt, IsOfForm, PrintsAreFew, ComesTo as TextComesTo, Outcome as TextOutcome}
+use Rattle.ob_first.specs.Sources.{FirstFormsRun, IsOfForm, PrintsAreFew, ComesTo as TextComesTo, Outcome as TextOutcome}
 use Rattle.ob_settings.specs.declared.job.Job.{Job}
 use Rattle.ob_settings.specs.Jobs.{JobsAreFit, OneJob}
-use Rattle.ob_commands.specs.Answers.{after_events, report_of}
+use Rattle.ob_commands.specs.Answers.{report_of}
+use Rattle.ob_model.specs.declared.strays.StrayEvent.{StrayEvent}
+use Rattle.ob_watch.specs.Watching.{Watch, after_events}
 use Rattle.ob_commands.specs.Parts.{Asked, asked, final_of, run_outcome, settings_for}
 use Rattle.ob_commands.specs.Top.{Answers, Devices, Handed}
 use Rattle.ob_commands.specs.Laws.{ComesTo, GivesWay, HasText, IsExact}
 use Rattle.ob_commands.proofs.Determined.{run_when}
-use Rattle.ob_commands.proofs.Quiet.{no_events, told_nothing}
 use Rattle.ob_program.specs.Language.{FirstFormsAreWritten, IsDoneAsMeant, first_forms}
 
 abbrev OneOutcome : Type 0
@@ -42,6 +42,14 @@ exact one =
 
 -- ---- what is written
 
+-- a watcher that is told nothing stays as it was
+stay : (ws : List Watch) → map (after_events []) ws ≡ ws
+stay [] = refl
+stay (w ∷ ws) = ap (λ rest. w ∷ rest) (stay ws)
+
+told_nothing : (events : List StrayEvent) (ws : List Watch) → events ≡ [] → map (after_events events) ws ≡ ws
+told_nothing events ws is = ap (λ e. map (after_events e) ws) is ∙ stay ws
+
 fit_by : (b : Bool) (s t : RunSettings) → IsFit s → IsFit t → IsFit (cond b s t)
 fit_by true s t p q = p
 fit_by false s t p q = q
@@ -51,8 +59,8 @@ fit_for job profile fit =
     fit_by (job.profile == 0) (record job.settings { profile = profile }) job.settings
     (record { least_store = fit.least_store; most_store = fit.most_store; away = fit.away; heap = fit.heap }) fit
 
-pub written : OneJob → JobsAreFit → OneOutcome → FirstFormsRun → FirstFormsAreBuilt → PrintsAreFew → FirstFormsAreWritten
-written one_job fit one runs builts few =
+pub written : OneJob → JobsAreFit → OneOutcome → FirstFormsRun → PrintsAreFew → FirstFormsAreWritten
+written one_job fit one runs few =
     record {
       written = λ h d s n job text form all has is enough. by h d s n job text form has is enough (run_when first_forms one_job (exact one) h d s n job text form all has is);
       few = few;
@@ -66,9 +74,8 @@ written one_job fit one runs builts few =
         let settings = settings_for job (code_of form).profile in
         let f : Final = final_of a (code_of form) [] closed in
         let means = runs text form has.short is settings a.supply.cycle a.supply.place [] closed job.steps (fit_for job (code_of form).profile (fit h.words job has.asks.asked).0) enough in
-        let quiet : f.state.events ≡ [] = no_events (code_of form) settings a.supply.cycle a.supply.place [] closed job.steps (builts form) in
         let err_is : ending_line f.ending ++ report_of job.report (map (after_events f.state.events) h.watchers) ≡ report_of job.report h.watchers =
-        ap (λ e. ending_line e ++ report_of job.report (map (after_events f.state.events) h.watchers)) means.ending ∙ ap (report_of job.report) (told_nothing f.state.events h.watchers quiet) in
+        ap (λ e. ending_line e ++ report_of job.report (map (after_events f.state.events) h.watchers)) means.ending ∙ ap (report_of job.report) (told_nothing f.state.events h.watchers means.quiet) in
         inl (record {
           status_is = told.status_is ∙ ap endings.status_of means.ending;
           out = subst (IsWritten d.out) means.output told.out;

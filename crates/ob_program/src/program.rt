@@ -1,20 +1,53 @@
-ghost use Rattle.std.specs.Prelude.{◌≡◌, ◌≤◌, map, length, string_bytes};
+ghost use Rattle.std.specs.Prelude.{◌≡◌, ◌≤◌, [], map, string_bytes, false};
+ghost use Rattle.ob_base.specs.Devices.{IsUnread, Reading};
 ghost use Rattle.ob_model.specs.Settings.{IsFit};
-ghost use Rattle.ob_settings.specs.Jobs.{IsJobFor};
 ghost use Rattle.ob_commands.specs.Top.{Answers, ComesOf, IsIdle};
-ghost use Rattle.ob_commands.specs.Delivery.{CameFor, StandsFor};
+ghost use Rattle.ob_commands.specs.Delivery.{CameFor, CameTo, Delivered};
 ghost use Rattle.ob_program.specs.Language.{first_forms};
+ghost use Rattle.ob_program.specs.Refusals.{came_of_fault, runs};
 
 use crate::run::run;
 use ob_base::{Folder, Sink, Source};
-use ob_commands::{Answer, Came, Status, deliver, exec, job_of, migrate, stands};
+use ob_commands::{Answer, Came, Status, deliver, exec, job_of, migrate};
 use ob_maker::Maker;
 use ob_settings::{Job, Verb, WordsFault, law_jobs};
 use ob_watch::Watcher;
 use std::alloc::Global;
 
-/// Does a job that runs an image or a source, but for what the error sink is told.
-fn perform_run<F: Folder, S: Source, K: Sink, M: Maker, W: Watcher>(
+/// Whether a command runs a source or an image, on the maker that the job names.
+fn runs(verb: Verb) -> bool
+    ensures { result ≡ runs verb }
+{
+    match verb {
+        Verb::Run | Verb::Exec => true,
+        _ => false,
+    }
+}
+
+/// Does a job that runs nothing, but for what the error sink is told.
+fn perform_alone<F: Folder, K: Sink>(
+    alloc: Global,
+    job: &Job,
+    name: &str,
+    folder: &mut F,
+    out: &mut K,
+) -> Came
+    requires alone { runs job.now.verb ≡ false }
+    requires named { name.now ≡ job.now.argument }
+    ensures { (input : Reading) → IsUnread input → CameFor job.now
+        (λ a o. ComesOf first_forms job.now.verb a (record { files = F.files folder.old; faults_before = F.faults folder.old; faults_now = F.faults folder.new }) input o)
+        (IsIdle (record { files = F.files folder.old; faults_before = F.faults folder.old; faults_now = F.faults folder.new }) input)
+        result
+        (record { taken_before = K.taken out.old; taken_now = K.taken out.new; tally_before = K.tally out.old; tally_now = K.tally out.new; faults_before = K.faults out.old; faults_now = K.faults out.new }) }
+{
+    match job.verb {
+        Verb::Migrate => migrate(alloc, job, name, folder, out),
+        _ => Came::Due(Answer::NotYet, 0),
+    }
+}
+
+/// Does a job, but for what the error sink is told, with the maker that it names.
+fn perform<F: Folder, S: Source, K: Sink, M: Maker, W: Watcher>(
     alloc: Global,
     job: &Job,
     name: &str,
@@ -37,72 +70,24 @@ fn perform_run<F: Folder, S: Source, K: Sink, M: Maker, W: Watcher>(
     match job.verb {
         Verb::Run => run(alloc, job, name, maker, watchers, folder, out),
         Verb::Exec => exec(alloc, job, name, maker, watchers, folder, input, out),
-        Verb::Migrate => migrate(alloc, job, name, folder, out),
-        _ => Came::Due(Answer::NotYet, 0),
+        _ => perform_alone(alloc, job, name, folder, out),
     }
 }
 
-/// Does a job, but for what the error sink is told.
-fn perform<F: Folder, S: Source, K: Sink>(
+/// Tells the error sink that there is no job to do.
+fn refuse<E: Sink>(
     alloc: Global,
-    job: &Job,
-    name: &str,
-    folder: &mut F,
-    input: &mut S,
-    out: &mut K,
-) -> Came
-    requires fit { IsFit job.now.settings }
-    requires steps { job.now.steps ≤ 1000000000 }
-    requires named { name.now ≡ job.now.argument }
-    ensures { CameFor job.now (StandsFor job.now.verb)
-        (λ a o. ComesOf first_forms job.now.verb a (record { files = F.files folder.old; faults_before = F.faults folder.old; faults_now = F.faults folder.new }) (record { left_before = S.left input.old; left_now = S.left input.new; faults_before = S.faults input.old; faults_now = S.faults input.new }) o)
-        (IsIdle (record { files = F.files folder.old; faults_before = F.faults folder.old; faults_now = F.faults folder.new }) (record { left_before = S.left input.old; left_now = S.left input.new; faults_before = S.faults input.old; faults_now = S.faults input.new }))
-        result
-        (record { taken_before = K.taken out.old; taken_now = K.taken out.new; tally_before = K.tally out.old; tally_now = K.tally out.new; faults_before = K.faults out.old; faults_now = K.faults out.new }) }
-{
-    match job.verb {
-        Verb::Run => run(alloc, job, name, folder, out),
-        Verb::Exec => exec(alloc, job, name, folder, input, out),
-        Verb::Migrate => migrate(alloc, job, name, folder, out),
-        Verb::Compile => Came::Due(Answer::NotYet, 0),
-        Verb::Check => Came::Due(Answer::NotYet, 0),
-        Verb::Audit => Came::Due(Answer::NotYet, 0),
-        Verb::Sample => Came::Due(Answer::NotYet, 0),
-    }
-}
-
-/// Does a job that the words ask for, and tells the error sink what it came to.
-fn answer_job<F: Folder, S: Source, K: Sink, E: Sink>(
-    alloc: Global,
-    words: &Vec<String>,
-    job: &Job,
-    folder: &mut F,
-    input: &mut S,
-    out: &mut K,
-    err: &mut E,
-    makers: &Vec<Box<dyn Maker>>,
+    fault: WordsFault,
     watchers: &Vec<Box<dyn Watcher>>,
+    err: &mut E,
 ) -> Status
-    requires { IsJobFor (length makers.now.items) (map string_bytes words.now.items) job.now }
-    ensures { Answers first_forms
-        (record {
-          words = map string_bytes words.now.items;
-          makers = map (λ m. record { cycle = cycle m; place = place m }) makers.now.items;
-          watchers = map (λ w. record { capacity = capacity w; kept = kept w; total = told w }) watchers.now.items;
-        })
-        (record {
-          folder = (record { files = F.files folder.old; faults_before = F.faults folder.old; faults_now = F.faults folder.new });
-          input = (record { left_before = S.left input.old; left_now = S.left input.new; faults_before = S.faults input.old; faults_now = S.faults input.new });
-          out = (record { taken_before = K.taken out.old; taken_now = K.taken out.new; tally_before = K.tally out.old; tally_now = K.tally out.new; faults_before = K.faults out.old; faults_now = K.faults out.new });
-          err = (record { taken_before = E.taken err.old; taken_now = E.taken err.new; tally_before = E.tally err.old; tally_now = E.tally err.new; faults_before = E.faults err.old; faults_now = E.faults err.new });
-        })
-        result.code result.instructions }
+    ensures { Delivered [] false (map (λ w. record { capacity = capacity w; kept = kept w; total = told w }) watchers.now.items) (came_of_fault fault) (record { taken_before = E.taken err.old; taken_now = E.taken err.new; tally_before = E.tally err.old; tally_now = E.tally err.new; faults_before = E.faults err.old; faults_now = E.faults err.new }) result.code result.instructions }
 {
-    law_jobs();
-    stands(makers, usize::from(job.maker));
-    let name = words[job.at].as_str();
-    let came = perform(alloc, job, name, folder, input, out);
-    deliver(alloc, name, job.report, watchers, came, err)
+    let came = match fault {
+        WordsFault::Usage => Came::Due(Answer::Usage, 0),
+        WordsFault::NoMemory => Came::Starved,
+    };
+    deliver(alloc, "", false, watchers, came, err)
 }
 
 /// Does what the words ask for: a command, one argument, and options (`ob_settings::read_words`).
@@ -113,7 +98,7 @@ fn answer_job<F: Folder, S: Source, K: Sink, E: Sink>(
 /// an image to `out` in version 2 of its format. Manufactured values come from the maker that `--maker`
 /// names, the first, second or third of `makers`. Where a run doesn't end by the program's own ending, and
 /// where there is none, `err` gets one line that says why; with `--report` it gets behind that of a run what
-/// each of the `watchers` was told. Makers and watchers are dropped at the end.
+/// each of the `watchers` was told. Makers and watchers are dropped at the end, after that.
 ///
 /// The status is that of the run's number modulo 128, 0 for `migrate`, or
 ///
@@ -132,9 +117,11 @@ fn answer_job<F: Folder, S: Source, K: Sink, E: Sink>(
 /// - 141: the run did as many instructions as a run of so many steps may do.
 /// - 142: `input` failed, after every byte that was read before was given to the run.
 /// - 143: `out` or `err` failed. Each has taken a prefix of what was due to it.
-/// - 144: want of memory: before the job was begun, so that nothing was read, written and run; or for a line
-///   that names a place and for a report, so that `out` has taken all that was due to it and `err` nothing.
-/// - 145: the command, the source or the image can't be done yet.
+/// - 144: want of memory: before the job was begun, so that nothing was read, written and run; in a run of
+///   boundless mode, for a store outside of its object, so that `out` has taken a prefix of what was due to
+///   it and `err` nothing; or for a line that names a place and for a report, so that `out` has taken all that
+///   was due to it and `err` nothing.
+/// - 145: the command or the source can't be done yet.
 pub fn top<F: Folder, S: Source, K: Sink, E: Sink>(
     alloc: Global,
     words: Vec<String>,
@@ -142,8 +129,8 @@ pub fn top<F: Folder, S: Source, K: Sink, E: Sink>(
     input: &mut S,
     out: &mut K,
     err: &mut E,
-    makers: Vec<Box<dyn Maker>>,
-    watchers: Vec<Box<dyn Watcher>>,
+    mut makers: Vec<Box<dyn Maker>>,
+    mut watchers: Vec<Box<dyn Watcher>>,
 ) -> Status
     ensures { Answers first_forms
         (record {
@@ -159,14 +146,27 @@ pub fn top<F: Folder, S: Source, K: Sink, E: Sink>(
         })
         result.code result.instructions }
 {
-    match job_of(alloc, &words, makers.len()) {
-        Ok(job) => answer_job(
-            alloc, &words, &job, folder, input, out, err, &makers, &watchers,
-        ),
-        Err(WordsFault::Usage) => {
-            let came = Came::Due(Answer::Usage, 0);
-            deliver(alloc, "", false, &watchers, came, err)
-        }
-        Err(WordsFault::NoMemory) => deliver(alloc, "", false, &watchers, Came::Starved, err),
+    let job = match job_of(alloc, &words, makers.len()) {
+        Ok(job) => job,
+        Err(fault) => return refuse(alloc, fault, &watchers, err),
+    };
+    law_jobs();
+    let name = words[job.at].as_str();
+    if runs(job.verb) {
+        let maker = &mut makers[usize::from(job.maker)];
+        let came = perform(
+            alloc,
+            &job,
+            name,
+            maker,
+            &mut watchers,
+            folder,
+            input,
+            out,
+        );
+        deliver(alloc, name, job.report, &watchers, came, err)
+    } else {
+        let came = perform_alone(alloc, &job, name, folder, out);
+        deliver(alloc, name, job.report, &watchers, came, err)
     }
 }

@@ -18,4 +18,4 @@ returns-clause-run_when c = run_when first_forms c.law_one_job.ensures.one (exac
 
 pub returns-clause-written : goal.returns-clause-written
 returns-clause-written c =
-    written c.law_one_job.ensures.one c.law_jobs.ensures.fit c.law_one_outcome.ensures c.law_first_runs.ensures.runs c.law_first_runs.ensures.built c.law_first_runs.ensures.few
+    written c.law_one_job.ensures.one c.law_jobs.ensures.fit c.law_one_outcome.ensures c.law_first_runs.ensures.runs c.law_first_runs.ensures.few
