@@ -89,11 +89,14 @@ kept_at : (f : Framed) (l : Living) (settings : RunSettings) (function link : â„
 kept_at f l settings function link framed sound kept = record {
   settled = record { profile = kept.settled.profile; cap = kept.settled.cap; away = kept.settled.away; heap = kept.settled.heap; memory = kept.settled.memory; statics = kept.settled.statics };
   count = omega (arith, kept.count);
-  calls = (record {
-    known = locals_known (next_base f.functions f.calls) l.next (function_at f.functions function).locals l.entries;
-    own = own_rows (next_base f.functions f.calls) l.next (function_at f.functions function) l.entries sound.given_out;
-    numbers = omega arith;
-  }, calls_stay f.functions l.entries (with_locals (next_base f.functions f.calls) l.next (function_at f.functions function).locals l.entries) l.next f.calls framed.rows framed.stacked (keeps_entered (next_base f.functions f.calls) l.next (function_at f.functions function).locals l.entries) kept.calls l.next (omega arith));
+  calls = (
+    record {
+      known = locals_known (next_base f.functions f.calls) l.next (function_at f.functions function).locals l.entries;
+      own = own_rows (next_base f.functions f.calls) l.next (function_at f.functions function) l.entries sound.given_out;
+      numbers = omega arith;
+    },
+    calls_stay f.functions l.entries (with_locals (next_base f.functions f.calls) l.next (function_at f.functions function).locals l.entries) l.next f.calls framed.rows framed.stacked (keeps_entered (next_base f.functions f.calls) l.next (function_at f.functions function).locals l.entries) kept.calls l.next (omega arith),
+  );
   places = places_entered function link l.next f l.entries kept.places;
 }
 

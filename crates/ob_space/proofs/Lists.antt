@@ -54,9 +54,10 @@ contains_filter {X} p (y ∷ ys) x h met =
 
 -- what is left was there, and met the test
 pub contains_filtered : {X : Type 0} (p : X → Bool) (xs : List X) (x : X) → Contains (filter p xs) x → Contains xs x × (p x ≡ true)
-contains_filtered {X} p xs x h =
-    (All-contains (Contains xs) (filter p xs) x (All-filter p (Contains xs) xs (All-contains_itself xs)) h,
-    All-contains (λ (y : X). p y ≡ true) (filter p xs) x (filter_passes p xs) h)
+contains_filtered {X} p xs x h = (
+  All-contains (Contains xs) (filter p xs) x (All-filter p (Contains xs) xs (All-contains_itself xs)) h,
+  All-contains (λ (y : X). p y ≡ true) (filter p xs) x (filter_passes p xs) h,
+)
 
 pub contains_map : {X Y : Type 0} (f : X → Y) (xs : List X) (x : X) → Contains xs x → Contains (map f xs) (f x)
 contains_map f [] x h = absurd (omega (arith, h.1))

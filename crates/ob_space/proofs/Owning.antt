@@ -82,9 +82,10 @@ call_stays functions old new bound c sound kept has next more = record {
 
 pub calls_stay : (functions : List FunctionRow) (old new : List Known) (bound : ℕ) (calls : List Call) → AllSound functions → AreStacked functions calls → KeepsCalls bound old new → HaveObjects functions old bound calls → (next : ℕ) → bound ≤ next → HaveObjects functions new next calls
 calls_stay functions old new bound [] rows stacked kept have next more = tt
-calls_stay functions old new bound (c ∷ cs) rows stacked kept have next more =
-    (call_stays functions old new bound c (rows c.function stacked.0) kept have.0 next more,
-    calls_stay functions old new c.first cs rows stacked.2 (keeps_fewer bound c.first old new (omega (arith, have.0.numbers)) kept) have.1 c.first (omega arith))
+calls_stay functions old new bound (c ∷ cs) rows stacked kept have next more = (
+  call_stays functions old new bound c (rows c.function stacked.0) kept have.0 next more,
+  calls_stay functions old new c.first cs rows stacked.2 (keeps_fewer bound c.first old new (omega (arith, have.0.numbers)) kept) have.1 c.first (omega arith),
+)
 
 -- ---- where the objects of calls lie
 

@@ -58,14 +58,25 @@ some_call functions (c ∷ cs) e rows stacked of =
     ⊎_elim
     (λ (here : IsOfCall functions c e).
     let is : IsSomeCall functions (c ∷ cs) e = record {
-      inner = []; c = c; outer = cs; whole = refl; of = here; known = stacked.0;
+      inner = [];
+      c = c;
+      outer = cs;
+      whole = refl;
+      of = here;
+      known = stacked.0;
       multiple = omega (arith, frames_in_blocks functions cs rows stacked.2, stacked.1);
     } in
     is)
     (λ (there : IsOfCalls functions cs e).
     let at = some_call functions cs e rows stacked.2 there in
     let is : IsSomeCall functions (c ∷ cs) e = record {
-      inner = c ∷ at.inner; c = at.c; outer = at.outer; whole = ap (λ (xs : List Call). c ∷ xs) at.whole; of = at.of; known = at.known; multiple = at.multiple;
+      inner = c ∷ at.inner;
+      c = at.c;
+      outer = at.outer;
+      whole = ap (λ (xs : List Call). c ∷ xs) at.whole;
+      of = at.of;
+      known = at.known;
+      multiple = at.multiple;
     } in
     is)
     of

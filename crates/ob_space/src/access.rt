@@ -59,7 +59,12 @@ impl Space {
         self.frames.law_framed();
         self.living.stands();
         let pointer = self.living.resolve(w);
-        access_to(self.settings.mode, pointer, displacement, size_of_kind(kind))
+        access_to(
+            self.settings.mode,
+            pointer,
+            displacement,
+            size_of_kind(kind),
+        )
     }
 
     // What a load finds.
@@ -72,8 +77,9 @@ impl Space {
     {
         self.frames.law_framed();
         match access {
-            Access::Direct { address } | Access::Own { address, .. } =>
-                Some(self.frames.read(kind, address)),
+            Access::Direct { address } | Access::Own { address, .. } => Some(
+                self.frames.read(kind, address),
+            ),
             Access::Outside { object, offset } => self.living.load_outside(kind, object, offset),
             Access::Vanishing { .. } | Access::TooFar => None,
         }
@@ -96,7 +102,13 @@ impl Space {
     }
 
     // Writes a granule outside of its object.
-    fn write_outside(&mut self, kind: LoadKind, object: u64, offset: i64, value: u64) -> Result<(), ob_base::NoMemory>
+    fn write_outside(
+        &mut self,
+        kind: LoadKind,
+        object: u64,
+        offset: i64,
+        value: u64,
+    ) -> Result<(), ob_base::NoMemory>
         requires { Reaches (outside object offset) kind self.old }
         ensures no_memory { IsErr result → listed_cell object (granule offset) self.old.space.outside ≡ None }
         ensures space { OnOk result (self.new ≡ with_space self.old (after_outside_store self.old.settings.store kind object offset value self.old.space)) }
@@ -157,7 +169,10 @@ impl Space {
         if matches!(access, Access::TooFar) {
             return Err(FarOut);
         }
-        tell_each(watchers, event_of(access, line, Act::Load, size_of_kind(kind)));
+        tell_each(
+            watchers,
+            event_of(access, line, Act::Load, size_of_kind(kind)),
+        );
         let found = self.find(access, kind);
         Ok(word_or_made(found, kind, maker))
     }
@@ -190,7 +205,10 @@ impl Space {
         if matches!(access, Access::TooFar) {
             return Err(StoreAnswer::Far);
         }
-        tell_each(watchers, event_of(access, line, Act::Store, size_of_kind(kind)));
+        tell_each(
+            watchers,
+            event_of(access, line, Act::Store, size_of_kind(kind)),
+        );
         match self.put(access, kind, value) {
             Ok(()) => Ok(()),
             Err(_) => Err(StoreAnswer::NoMemory),

@@ -12,8 +12,8 @@ ghost use Rattle.ob_lifetimes.specs.Living.{as_freeing};
 ghost use Rattle.ob_space.specs.Loaded.{IsShowable, address_in_heap, after_free, freeing_of, heap_place, with_space};
 
 use crate::Space;
-use ob_lifetimes::Freed;
 use ob_frames::laws::law_objects;
+use ob_lifetimes::Freed;
 use ob_model::{Act, LoadKind, StrayEvent, law_first_fit};
 use ob_standing::laws::{law_deaths, law_new_objects};
 use ob_telling::tell_each;

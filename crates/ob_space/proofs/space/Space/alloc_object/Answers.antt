@@ -17,5 +17,5 @@ invariant_of-self-2 c =
 pub returns-clause-standing : goal.returns-clause-standing
 returns-clause-standing c =
     let old : Loaded = loaded_in c.self.inside.frames c.self.inside.living c.self.inside.settings in
-    rw (← c.self.view_is, c.in_ok-place.ensures.made)
+    rw (← c.self.view_is, c.zero.ensures.memory, c.block.ensures.value, c.in_ok-place.ensures.made)
     (c.law_new_objects.ensures.allocations (Some c.in_ok-place.place) c.args.n old.space c.stands.ensures.given_out)
