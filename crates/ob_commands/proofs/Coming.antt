@@ -25,9 +25,10 @@ use Rattle.ob_code.specs.Start.{flat_final}
 use Rattle.ob_code.specs.State.{Final}
 use Rattle.ob_image.specs.Faults.{Spells, SpellsIn}
 use Rattle.ob_image.specs.declared.layout.Version.TheVariants.{Two}
+use Rattle.ob_machine.specs.Machines as machines
 use Rattle.ob_machine.specs.Machines.{ComesTo, done, broken, starved, HasStore, Hearing, IsDone, MachineState, Runs, loaded}
 use Rattle.ob_report.specs.Lines.{ending_line}
-use Rattle.ob_watch.specs.Watching.{Watch, after_events}
+use Rattle.ob_watch.specs.Watching.{Watch, after_event, after_events}
 use Rattle.ob_settings.specs.declared.job.Job.{Job}
 use Rattle.ob_commands.specs.declared.answer.Answer.{Answer}
 use Rattle.ob_commands.specs.declared.answer.Answer.TheVariants.{Done, Usage, FileFault, FileLong, Refused, Bad, Ran, NotYet}
@@ -163,6 +164,19 @@ stores_kept a profile f boundless (e, at, is) =
     let mode : a.job.settings.mode ≡ Boundless = sym (mode_is a.job profile) ∙ boundless in
     ap (λ m. keeps_strays m && list_any is_store f.state.events) mode ∙ any_at is_store f.state.events at.0 e at.1 at.2 (stored e is)
 
+-- watchers that were told events, all at each event and each at all events
+told_none : (ws : List Watch) → ws ≡ map (after_events []) ws
+told_none [] = refl
+told_none (w ∷ ws) = ap (λ (vs : List Watch). w ∷ vs) (told_none ws)
+
+told_first : (e : StrayEvent) (es : List StrayEvent) (ws : List Watch) → map (after_events es) (map (λ (w : Watch). after_event w e) ws) ≡ map (after_events (e ∷ es)) ws
+told_first e es [] = refl
+told_first e es (w ∷ ws) = ap (λ (vs : List Watch). after_events (e ∷ es) w ∷ vs) (told_first e es ws)
+
+told_all : (es : List StrayEvent) (ws : List Watch) → machines.after_events es ws ≡ map (after_events es) ws
+told_all [] ws = told_none ws
+told_all (e ∷ es) ws = told_all es (map (λ (w : Watch). after_event w e) ws) ∙ told_first e es ws
+
 run_due : (a : Asked) (image : Image) (input : List ℕ) (input_end : InputEnd) (seen : List Watch) (w : Writing) (e : Ending) (n : ℕ) → e ≡ (final_of a image input input_end).ending → n ≡ (final_of a image input input_end).state.instructions →
     seen ≡ map (after_events (final_of a image input input_end).state.events) a.watchers → IsWritten w (final_of a image input input_end).state.output → IsDue a seen (RunsWith a image input input_end) (Ran e) n w
 run_due a image input input_end seen w e n ends counts told all_written =
@@ -194,7 +208,7 @@ run_came a image I w h after e n input input_end ends before counts (done is) =
     let f : Final = final_of a image input input_end in
     let may : MayEnd input_end f.ending = ends image (settings_for a.job image.profile) a.supply.cycle a.supply.place input input_end a.job.steps in
     due_came a h.seen_now (RunsWith a image input input_end) I input_end n w e (subst (MayEnd input_end) (sym is.ending) may)
-    (run_due a image input input_end h.seen_now w e n is.ending (counts ∙ ap (λ (m : MachineState). m.instructions) is.machine) (is.events ∙ ap (map (after_events f.state.events)) before) is.output)
+    (run_due a image input input_end h.seen_now w e n is.ending (counts ∙ ap (λ (m : MachineState). m.instructions) is.machine) (is.events ∙ told_all f.state.events h.seen_before ∙ ap (map (after_events f.state.events)) before) is.output)
 run_came a image I w h after e n input input_end ends before counts (broken is) =
     let f : Final = final_of a image input input_end in
     subst (λ x. CameTo a h.seen_now (RunsWith a image input input_end) I (came_of x n) w) (sym is.ending)
