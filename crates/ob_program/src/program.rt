@@ -154,16 +154,7 @@ pub fn top<F: Folder, S: Source, K: Sink, E: Sink>(
     let name = words[job.at].as_str();
     if runs(job.verb) {
         let maker = &mut makers[usize::from(job.maker)];
-        let came = perform(
-            alloc,
-            &job,
-            name,
-            maker,
-            &mut watchers,
-            folder,
-            input,
-            out,
-        );
+        let came = perform(alloc, &job, name, maker, &mut watchers, folder, input, out);
         deliver(alloc, name, job.report, &watchers, came, err)
     } else {
         let came = perform_alone(alloc, &job, name, folder, out);
