@@ -1,5 +1,7 @@
 //! `exec`: what images do, which bytes and words are refused, and what devices that fail come to.
-use crate::tests::images::{CALLS, DIVIDES, ECHO, HEAP, HELLO, OPEN, PLACE, STILL, TICKS, image};
+use crate::tests::images::{
+    CALLS, DIVIDES, ECHO, HEAP, HELLO, OPEN, OVERRUN, PLACE, STILL, TICKS, image,
+};
 use crate::tests::{Devices, ROOM, Ran, call, run, words};
 use ob_base::{Folder, MemFolder, MemSink, MemSource, NoMemory, Source};
 use ob_program::top;
@@ -108,8 +110,45 @@ fn bytes_and_words_that_are_refused(rt: HostRuntime) -> Result<(), Fail> {
     let heap = exec(alloc, "exec an.image", &image(alloc, &HEAP)?, &sound())?;
     assert_eq!(rt;
         (heap.status, heap.instructions, heap.err.as_str()),
-        (145, 0, "oblivious: NotYet\n")
+        (0, 2, "")
     );
+    Ok(())
+}
+
+const TOLD: &str = "watcher 0: 2 events\n\
+    0: Store object 1 offset 4 size 1\n\
+    0: Load object 1 offset 4 size 1\n\
+    watcher 1: 2 events\n";
+
+// The words of a run of the overrun, its status, and what it tells on the error sink.
+const OVERRUNS: [(&str, u8, &str); 6] = [
+    ("exec an.image --report", 0, TOLD),
+    ("exec an.image --mode boundless --report", 9, TOLD),
+    ("exec an.image --mode boundless --store 1", 9, ""),
+    ("exec an.image --maker count --report", 0, TOLD),
+    ("exec an.image --profile 2 --mode=boundless", 9, ""),
+    (
+        "exec an.image --heap 0 --report",
+        0,
+        "watcher 0: 2 events\n\
+        0: Store object 0 offset 4 size 1\n\
+        0: Load object 0 offset 4 size 1\n\
+        watcher 1: 2 events\n",
+    ),
+];
+
+#[test]
+fn overruns(rt: HostRuntime) -> Result<(), Fail> {
+    let alloc = rt.alloc();
+    let bytes = image(alloc, &OVERRUN)?;
+    for (line, status, err) in &OVERRUNS {
+        let came = exec(alloc, line, &bytes, &sound())?;
+        assert_eq!(rt;
+            (came.status, came.err.as_str()),
+            (*status, *err),
+            "at {line}"
+        );
+    }
     Ok(())
 }
 

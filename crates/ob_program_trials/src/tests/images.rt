@@ -49,6 +49,10 @@ const CALL: u8 = 10;
 
 const RETURN: u8 = 11;
 
+const LOAD: u8 = 15;
+
+const STORE: u8 = 16;
+
 const MALLOC: u8 = 25;
 
 const GET: u8 = 23;
@@ -108,6 +112,16 @@ pub(crate) const ECHO: [(u8, u8, u32, u32, u32, u64); 8] = [
 
 /// Runs past its end.
 pub(crate) const OPEN: [(u8, u8, u32, u32, u32, u64); 1] = [(SET, 0, 2, 0, 0, 0)];
+
+/// Stores 9 one past the end of a heap object of four bytes, loads it again, and ends with what it got.
+pub(crate) const OVERRUN: [(u8, u8, u32, u32, u32, u64); 6] = [
+    (SET, 0, 2, 0, 0, 4),
+    (MALLOC, 0, 3, 2, 0, 0),
+    (SET, 0, 4, 0, 0, 9),
+    (STORE, 0, 4, 3, 2, 0),
+    (LOAD, 0, 5, 3, 2, 0),
+    (RETURN, 0, 0, 5, 0, 0),
+];
 
 /// Takes a block of the heap, which the machine doesn't do yet.
 pub(crate) const HEAP: [(u8, u8, u32, u32, u32, u64); 2] = [
