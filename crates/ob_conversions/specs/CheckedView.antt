@@ -1,5 +1,4 @@
 -- What the operands and marks of the program are as those of the definition.
-use Rattle.std.specs.Prelude.{ℕ}
 use Rattle.ob_tree.specs.Trees.{Mark as PlainMark}
 use Rattle.ob_tree.specs.Types.{PlainType}
 use Rattle.ob_tree.specs.Types.{PlainType as type}

@@ -5,9 +5,6 @@ use ob_typed::{TExpr, TPlace};
 #[derive(Drop)]
 pub enum Checked {
     Place(TPlace),
-    NullPointer {
-        bare: bool,
-        value: TExpr,
-    },
+    NullPointer { bare: bool, value: TExpr },
     Plain(TExpr),
 }

@@ -63,7 +63,11 @@ pub fn fits(x: &Checked, u: &CType) -> bool
 fn with_type(e: TExpr, ty: CType) -> TExpr
     ensures { typed_expr result ≡ TypedExpr.Typed e.line (plain_type ty) (typed_node e.node) }
 {
-    let TExpr { line, ty: was, node } = e;
+    let TExpr {
+        line,
+        ty: was,
+        node,
+    } = e;
     let_go(was);
     TExpr { line, ty, node }
 }

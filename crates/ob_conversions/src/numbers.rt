@@ -42,7 +42,11 @@ pub fn as_int(alloc: Global, kind: IntType, e: TExpr) -> Result<TExpr, NoMemory>
     ensures { IfOk result (λ r. typed_expr r ≡ as_int kind (typed_expr e)) }
 {
     match e.ty {
-        CType::Int(a) => if same_int(a, kind) { Ok(e) } else { converted(alloc, kind, e) },
+        CType::Int(a) => if same_int(a, kind) {
+            Ok(e)
+        } else {
+            converted(alloc, kind, e)
+        },
         _ => Ok(e),
     }
 }

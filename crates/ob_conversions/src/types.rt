@@ -3,7 +3,6 @@ ghost use Rattle.std.specs.Prelude.{◌≡◌, IfOk};
 ghost use Rattle.ob_tree.specs.Types.{PlainType};
 ghost use Rattle.ob_tree.specs.TypeView.{plain_type};
 ghost use Rattle.ob_typed.specs.TypeTests.{int_number, is_char, is_scalar, is_struct, is_unusable, is_void, same_int, same_type};
-
 ghost use Rattle.ob_conversions.specs.CheckedView.{target};
 
 use ob_base::{NoMemory, boxed};
