@@ -1,5 +1,10 @@
 //! Arithmetic operators and comparisons, from the operands' values (C99 6.5.5 to 6.5.9).
-ghost use Rattle.std.specs.Prelude.{◌≡◌, IfOk};
+ghost use Rattle.std.specs.Prelude.{◌≡◌, false, IfOk};
+ghost use Rattle.ob_words.specs.declared.types.IntType.TheVariants.{Long};
+ghost use Rattle.ob_tree.specs.Types.{PlainType};
+ghost use Rattle.ob_typed.specs.Conversions.{Checked as PlainChecked};
+ghost use Rattle.ob_typed.specs.Places.{pointed_to};
+ghost use Rattle.ob_typed.specs.TypedTree.{TypedExpr, TypedLean, TypedNode};
 ghost use Rattle.ob_words.specs.Operators.{shifts};
 ghost use Rattle.ob_tree.specs.StructsView.{plain_structs};
 ghost use Rattle.ob_tree.specs.TypeView.{plain_type};

@@ -6,7 +6,7 @@ ghost use Rattle.ob_tree.specs.TypeView.{plain_type};
 ghost use Rattle.ob_typed.specs.AssignRules.{assign_rule, assign_type, assignment_rule, comma_rule, copied, stored, update_rule, update_types, updated};
 ghost use Rattle.ob_typed.specs.Conversions.{Checked as PlainChecked, as_type};
 ghost use Rattle.ob_typed.specs.TypedTree.{TypedExpr, TypedNode, TypedPlace};
-ghost use Rattle.ob_typed.specs.TypedView.{typed_expr, typed_lean};
+ghost use Rattle.ob_typed.specs.TypedView.{typed_expr, typed_lean, typed_place};
 ghost use Rattle.ob_conversions.specs.CheckedView.{checked, mark};
 ghost use Rattle.ob_conversions.specs.Gives.{Gives};
 

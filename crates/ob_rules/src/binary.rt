@@ -1,11 +1,12 @@
 //! Binary operators and the conditional operator (C99 6.5.5 to 6.5.15).
-ghost use Rattle.std.specs.Prelude.{◌≡◌, IfOk, Bool, if◌then◌else◌};
+ghost use Rattle.std.specs.Prelude.{◌≡◌, IfOk, Bool, true, false, option_map, if◌then◌else◌};
 ghost use Rattle.ob_words.specs.declared.types.IntType.TheVariants.{Int};
 ghost use Rattle.ob_tree.specs.Types.{PlainType};
 ghost use Rattle.ob_tree.specs.StructsView.{plain_structs};
 ghost use Rattle.ob_tree.specs.TypeView.{plain_type};
-ghost use Rattle.ob_typed.specs.BinaryRules.{arith_types, binary_rule, compared_in, cond_rule, logical, operation, operation_rule, order_types, joined_type, equality, chosen};
-ghost use Rattle.ob_typed.specs.Conversions.{Checked as PlainChecked, value};
+ghost use Rattle.ob_typed.specs.BinaryRules.{arith_types, compare_pointers, binary_rule, compared_in, cond_rule, logical, operation, operation_rule, order_types, joined_type, equality, chosen};
+ghost use Rattle.ob_typed.specs.Conversions.{Checked as PlainChecked, as_type, value};
+ghost use Rattle.ob_typed.specs.TypedTree.{TypedExpr, TypedNode};
 ghost use Rattle.ob_typed.specs.TypedView.{typed_expr};
 ghost use Rattle.ob_conversions.specs.CheckedView.{checked, mark};
 ghost use Rattle.ob_conversions.specs.Gives.{Gives};
@@ -37,7 +38,7 @@ pub(crate) enum Operation {
 }
 
 /// What a sign is between two operands.
-fn operation(sign: Sign) -> Operation
+fn sign_operation(sign: Sign) -> Operation
     ensures { plain_operation result ≡ operation sign }
 {
     match sign {
@@ -220,7 +221,7 @@ pub fn binary_rule(
 ) -> Result<Checked, TypeFault>
     ensures { Gives checked result (binary_rule (plain_structs s.now) (mark m) sign (checked x) (checked y)) }
 {
-    operation_rule(alloc, s, m, operation(sign), x, y)
+    operation_rule(alloc, s, m, sign_operation(sign), x, y)
 }
 
 /// Two parts in a type, of which a test chooses one.

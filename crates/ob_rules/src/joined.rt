@@ -1,5 +1,5 @@
 //! The type that two parts have together (C99 6.5.9, 6.5.15), and parts in it.
-ghost use Rattle.std.specs.Prelude.{◌≡◌, IfOk, option_map};
+ghost use Rattle.std.specs.Prelude.{◌≡◌, false, IfOk, Some, None, option_map, if◌then◌else◌};
 ghost use Rattle.ob_tree.specs.Types.{PlainType};
 ghost use Rattle.ob_tree.specs.TypeView.{plain_type};
 ghost use Rattle.ob_typed.specs.BinaryRules.{joined, two_nulls, two_pointers};

@@ -1,5 +1,5 @@
 //! Subscripts and steps (C99 6.5.2.1, 6.5.2.4, 6.5.3.1).
-ghost use Rattle.std.specs.Prelude.{◌≡◌, pos, IfOk, if◌then◌else◌};
+ghost use Rattle.std.specs.Prelude.{◌≡◌, pos, false, IfOk, if◌then◌else◌};
 ghost use Rattle.ob_words.specs.declared.types.IntType.TheVariants.{Int};
 ghost use Rattle.ob_words.specs.declared.types.BinOp.TheVariants.{Add, Sub};
 ghost use Rattle.ob_words.specs.Types.{common};

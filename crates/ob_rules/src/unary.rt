@@ -1,6 +1,7 @@
 //! Unary operators and casts (C99 6.5.3, 6.5.4).
 ghost use Rattle.std.specs.Prelude.{◌≡◌, pos, IfOk, true, false};
 ghost use Rattle.ob_words.specs.declared.types.IntType.TheVariants.{Int};
+ghost use Rattle.ob_words.specs.declared.types.Relation.TheVariants.{Eq};
 ghost use Rattle.ob_tree.specs.Types.{PlainType};
 ghost use Rattle.ob_tree.specs.StructsView.{plain_structs};
 ghost use Rattle.ob_tree.specs.TypeView.{plain_type};
