@@ -128,7 +128,9 @@ pub fn arith_types(
         } else {
             operand(m, (x, y))
         },
-        (BinOp::Sub, CType::Pointer(t), CType::Pointer(u)) => if same_type(t, u) && is_object_type(s, t) {
+        (BinOp::Sub, CType::Pointer(t), CType::Pointer(u)) => if same_type(t, u)
+            && is_object_type(s, t)
+        {
             let scale = size(s, t);
             Ok(difference(alloc, m, scale, x, y)?)
         } else {

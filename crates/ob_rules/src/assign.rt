@@ -93,7 +93,11 @@ fn copied(
 {
     match y {
         Checked::Place(p) => {
-            let TPlace { line, ty, lean: from } = p;
+            let TPlace {
+                line,
+                ty,
+                lean: from,
+            } = p;
             match ty {
                 CType::Struct(k) => if number == k {
                     Ok(struct_copied(alloc, m.line, number, lean, from)?)
@@ -125,7 +129,17 @@ fn assign_type(
     ensures { Gives checked result (assign_type (plain_structs s.now) (mark m) first (plain_type ty) (typed_lean lean) (checked y)) }
 {
     match &ty {
-        CType::Int(_) | CType::Pointer(_) => stored(alloc, m, first, TPlace { line: m.line, ty, lean }, y),
+        CType::Int(_) | CType::Pointer(_) => stored(
+            alloc,
+            m,
+            first,
+            TPlace {
+                line: m.line,
+                ty,
+                lean,
+            },
+            y,
+        ),
         CType::Struct(number) => if is_object_type(s, &ty) {
             copied(alloc, m, first, *number, lean, y)
         } else {
@@ -206,13 +220,33 @@ fn update_types(
         (op, CType::Int(a), CType::Int(b)) => Ok(updated(alloc, m, op, *a, *b, lean, y)?),
         (BinOp::Add, CType::Pointer(t), CType::Int(_)) => if is_object_type(s, t) {
             let scale = size(s, t);
-            Ok(pointer_moved(alloc, scale, false, TPlace { line: m.line, ty, lean }, y)?)
+            Ok(pointer_moved(
+                alloc,
+                scale,
+                false,
+                TPlace {
+                    line: m.line,
+                    ty,
+                    lean,
+                },
+                y,
+            )?)
         } else {
             operand(m, (ty, lean, y))
         },
         (BinOp::Sub, CType::Pointer(t), CType::Int(_)) => if is_object_type(s, t) {
             let scale = size(s, t);
-            Ok(pointer_moved(alloc, scale, true, TPlace { line: m.line, ty, lean }, y)?)
+            Ok(pointer_moved(
+                alloc,
+                scale,
+                true,
+                TPlace {
+                    line: m.line,
+                    ty,
+                    lean,
+                },
+                y,
+            )?)
         } else {
             operand(m, (ty, lean, y))
         },

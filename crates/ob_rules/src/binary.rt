@@ -75,7 +75,14 @@ fn order_types(
     ensures { Gives checked result (order_types (mark m) relation (plain_type x.ty) (plain_type y.ty) (typed_expr x) (typed_expr y)) }
 {
     match (&x.ty, &y.ty) {
-        (CType::Int(a), CType::Int(b)) => Ok(compare_numbers(alloc, m, relation, common(*a, *b), x, y)?),
+        (CType::Int(a), CType::Int(b)) => Ok(compare_numbers(
+            alloc,
+            m,
+            relation,
+            common(*a, *b),
+            x,
+            y,
+        )?),
         (CType::Pointer(t), CType::Pointer(u)) => if same_type(t, u) {
             Ok(compare_pointers(alloc, m, relation, x, y)?)
         } else {
@@ -152,13 +159,7 @@ fn equality(
 }
 
 /// `&&` or, where not `and`, `||` (C99 6.5.13, 6.5.14).
-fn logical(
-    alloc: Global,
-    m: Mark,
-    and: bool,
-    x: TExpr,
-    y: TExpr,
-) -> Result<Checked, TypeFault>
+fn logical(alloc: Global, m: Mark, and: bool, x: TExpr, y: TExpr) -> Result<Checked, TypeFault>
     ensures { Gives checked result (logical (mark m) and (typed_expr x) (typed_expr y)) }
 {
     if is_scalar(&x.ty) && is_scalar(&y.ty) {
@@ -225,7 +226,14 @@ pub fn binary_rule(
 }
 
 /// Two parts in a type, of which a test chooses one.
-fn chosen(alloc: Global, line: u32, t: CType, c: TExpr, x: TExpr, y: TExpr) -> Result<Checked, NoMemory>
+fn chosen(
+    alloc: Global,
+    line: u32,
+    t: CType,
+    c: TExpr,
+    x: TExpr,
+    y: TExpr,
+) -> Result<Checked, NoMemory>
     ensures { IfOk result (λ r. checked r ≡ PlainChecked.Plain (TypedExpr.Typed line (plain_type t) (TypedNode.Cond (typed_expr c) (as_type (typed_expr x) (plain_type t)) (as_type (typed_expr y) (plain_type t))))) }
 {
     let (u, kept) = beside(copy_type(alloc, &t), (c, x, y))?;

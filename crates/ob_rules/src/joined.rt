@@ -28,7 +28,11 @@ fn pointer_like(alloc: Global, t: &CType) -> Result<CType, NoMemory>
 fn two_nulls(alloc: Global, t: &CType, u: &CType) -> Result<CType, NoMemory>
     ensures { IfOk result (λ p. plain_type p ≡ two_nulls (plain_type t.now) (plain_type u.now)) }
 {
-    if is_void(t) { pointer_like(alloc, u) } else { pointer_like(alloc, t) }
+    if is_void(t) {
+        pointer_like(alloc, u)
+    } else {
+        pointer_like(alloc, t)
+    }
 }
 
 /// The type of two pointers to one type, to `void` where one has this, or none.
@@ -66,7 +70,11 @@ fn two_pointers(
 fn copy_where(alloc: Global, test: bool, t: &CType) -> Result<Option<CType>, NoMemory>
     ensures { IfOk result (λ r. option_map plain_type r ≡ (if test then Some (plain_type t.now) else None)) }
 {
-    if test { Ok(Some(copy_type(alloc, t)?)) } else { Ok(None) }
+    if test {
+        Ok(Some(copy_type(alloc, t)?))
+    } else {
+        Ok(None)
+    }
 }
 
 /// The type that parts of types `t` and `u` have together, each of which is or isn't a null pointer constant.
@@ -89,12 +97,7 @@ pub fn joined(
 }
 
 /// Two values that convert to a type, in this type.
-pub fn both_in(
-    alloc: Global,
-    x: TExpr,
-    y: TExpr,
-    t: CType,
-) -> Result<(TExpr, TExpr), NoMemory>
+pub fn both_in(alloc: Global, x: TExpr, y: TExpr, t: CType) -> Result<(TExpr, TExpr), NoMemory>
     ensures first { IfOk result (λ r. typed_expr r.0 ≡ as_type (typed_expr x) (plain_type t)) }
     ensures second { IfOk result (λ r. typed_expr r.1 ≡ as_type (typed_expr y) (plain_type t)) }
 {

@@ -34,7 +34,11 @@ use std::alloc::Global;
 fn address(alloc: Global, line: u32, p: TPlace) -> Result<Checked, NoMemory>
     ensures { IfOk result (λ r. checked r ≡ PlainChecked.Plain (TypedExpr.Typed line (PlainType.Pointer (plain_type p.ty)) (TypedNode.Lean (typed_lean p.lean)))) }
 {
-    let TPlace { line: own, ty, lean } = p;
+    let TPlace {
+        line: own,
+        ty,
+        lean,
+    } = p;
     let (ty, lean) = boxed_with(alloc, ty, lean)?;
     Ok(Checked::Plain(leaning(alloc, line, ty, lean)?))
 }
@@ -84,14 +88,7 @@ fn negative(alloc: Global, m: Mark, kind: IntType, x: TExpr) -> Result<Checked, 
 {
     let wide = promote(kind);
     let x = as_int(alloc, wide, x)?;
-    Ok(Checked::Plain(arith(
-        alloc,
-        m.line,
-        BinOp::Sub,
-        wide,
-        number(m.line, wide, 0),
-        x,
-    )?))
+    Ok(Checked::Plain(arith(alloc, m.line, BinOp::Sub, wide, number(m.line, wide, 0), x)?))
 }
 
 /// The operand with each bit of -1 turned.
@@ -116,13 +113,7 @@ fn is_zero_number(alloc: Global, m: Mark, kind: IntType, x: TExpr) -> Result<Che
 {
     let wide = promote(kind);
     let x = as_int(alloc, wide, x)?;
-    Ok(Checked::Plain(compare(
-        alloc,
-        m.line,
-        Relation::Eq,
-        x,
-        number(m.line, wide, 0),
-    )?))
+    Ok(Checked::Plain(compare(alloc, m.line, Relation::Eq, x, number(m.line, wide, 0))?))
 }
 
 /// Whether the operand is the null pointer of its type.
@@ -130,13 +121,7 @@ fn is_null_pointer(alloc: Global, m: Mark, x: TExpr) -> Result<Checked, NoMemory
     ensures { IfOk result (λ r. checked r ≡ PlainChecked.Plain (TypedExpr.Typed m.line (PlainType.Int Int) (TypedNode.PtrCompare Eq (typed_expr x) (TypedExpr.Typed m.line (plain_type x.ty) TypedNode.Null)))) }
 {
     let (ty, x) = beside(copy_type(alloc, &x.ty), x)?;
-    Ok(Checked::Plain(pointer_compare(
-        alloc,
-        m.line,
-        Relation::Eq,
-        x,
-        null(m.line, ty),
-    )?))
+    Ok(Checked::Plain(pointer_compare(alloc, m.line, Relation::Eq, x, null(m.line, ty))?))
 }
 
 /// `+`, `-`, `~` and `!` (C99 6.5.3.3).
