@@ -1,0 +1,2 @@
+pub mod CheckedView
+pub mod Gives
