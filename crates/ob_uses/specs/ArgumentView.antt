@@ -8,4 +8,4 @@ abbrev pub argument : Argument → PlainArgument
 argument a = record { first = a.first; is = checked a.is }
 
 abbrev pub arguments : List Argument → List PlainArgument
-arguments as = map argument as
+arguments given = map argument given

@@ -1,1 +1,3 @@
 pub mod ArgumentView
+pub mod MemberTypes
+pub mod Passing

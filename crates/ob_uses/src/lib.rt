@@ -18,3 +18,5 @@ mod arguments;
 mod calls;
 mod members;
 mod names;
+mod passing;
+mod refused;

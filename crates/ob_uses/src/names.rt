@@ -1,7 +1,9 @@
 //! Names of objects (C99 6.5.1).
-ghost use Rattle.ob_typed.specs.PostfixRules.{name_rule};
+ghost use Rattle.std.specs.Prelude.{◌≡◌};
+ghost use Rattle.ob_typed.specs.PostfixRules.{meant, name_rule};
 ghost use Rattle.ob_typed.specs.Scopes.{find};
-ghost use Rattle.ob_scopes.specs.Names.{declared_in};
+ghost use Rattle.ob_typed.specs.TypedView.{typed_lean};
+ghost use Rattle.ob_scopes.specs.Names.{declared_in, lean_of, plain_meaning};
 ghost use Rattle.ob_conversions.specs.CheckedView.{checked, mark};
 ghost use Rattle.ob_conversions.specs.Gives.{Gives};
 
@@ -15,7 +17,9 @@ use ob_typed::TLean;
 use std::alloc::Global;
 
 /// Where an object lies, as a base.
-fn lean_of(storage: Storage) -> TLean {
+fn lean_of(storage: Storage) -> TLean
+    ensures { typed_lean result ≡ lean_of storage }
+{
     match storage {
         Storage::Static(number) => TLean::Static(number),
         Storage::Local(number) => TLean::Local(number),
@@ -23,7 +27,9 @@ fn lean_of(storage: Storage) -> TLean {
 }
 
 /// What a meaning is as an expression.
-fn meant(alloc: Global, m: Mark, meaning: &Meaning) -> Result<Checked, TypeFault> {
+fn meant(alloc: Global, m: Mark, meaning: &Meaning) -> Result<Checked, TypeFault>
+    ensures { Gives checked result (meant (mark m) (plain_meaning meaning.now)) }
+{
     match meaning {
         Meaning::Variable(t, storage) => {
             let t = copy_type(alloc, t)?;
