@@ -2,7 +2,6 @@
 -- before each and the structures whose member lists are open, is apart from what it adds to.
 use Rattle.std.specs.Prelude.{ℕ, List, [], ◌∷◌, ◌++◌, length, map}
 use Rattle.ob_tree.specs.StructsView.{plain_structs}
-use Rattle.ob_typed.specs.TypedTree.{TypedObject}
 use Rattle.ob_typed.specs.TypedView.{typed_object}
 use Rattle.ob_typed.specs.Scopes.{TagDeclared, Known as PlainKnown, Env as PlainEnv, Called as PlainCalled}
 use Rattle.ob_scopes.specs.Names.{declared_in}

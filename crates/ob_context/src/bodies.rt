@@ -17,7 +17,7 @@ pub struct Bodies {
 }
 
 impl Model for Bodies {
-    ghost use Rattle.std.specs.Prelude.{ℕ, List, length};
+    ghost use Rattle.std.specs.Prelude.{◌≡◌, ℕ, List, length};
     ghost use Rattle.std.specs.Coded.{coded_list, coded_ℕ};
     ghost use Rattle.ob_context.specs.Numbered.{AreNumbered, names_of};
 
