@@ -1,5 +1,5 @@
 //! The arguments of a call in the types of the parameters (C99 6.5.2.2).
-ghost use Rattle.std.specs.Prelude.{ℕ, ◌≡◌, ◌++◌, Ok, [], ◌∷◌, IfOk};
+ghost use Rattle.std.specs.Prelude.{ℕ, ◌≡◌, ◌++◌, Ok, [], ◌∷◌, IfOk, option_map, slice_get};
 ghost use Rattle.ob_tree.specs.TypeView.{plain_type, plain_types};
 ghost use Rattle.ob_typed.specs.Conversions.{as_type, loaded, value, value_type};
 ghost use Rattle.ob_typed.specs.Faults.{then_rule};
@@ -85,6 +85,13 @@ fn pass_one(alloc: Global, done: &mut Vec<TExpr>, a: Argument, t: &CType) -> Res
     Ok(push_on(done, e)?)
 }
 
+/// The type of a parameter by its index, counted from 0.
+fn parameter_at(params: &Vec<CType>, index: usize) -> Option<&CType>
+    ensures { option_map (λ t. plain_type t.now) result ≡ slice_get (plain_types params.now.items) index }
+{
+    params.get(index)
+}
+
 /// The arguments in the types of the parameters. The first argument that doesn't convert comes before a wrong number of
 /// them.
 pub(crate) fn passed(
@@ -100,15 +107,14 @@ pub(crate) fn passed(
     rest.reverse();
     let mut index = 0usize;
     while let Some(a) = rest.pop() {
-        match params.get(index) {
+        match parameter_at(params, index) {
             Some(t) => pass_one(alloc, &mut done, a, t)?,
             None => return refused(TypeKind::Count, m.first, (a, done, rest)),
         }
         index += 1;
     }
-    if index < params.len() {
-        refused(TypeKind::Count, m.first, done)
-    } else {
-        Ok(done)
+    match parameter_at(params, index) {
+        Some(_) => refused(TypeKind::Count, m.first, done),
+        None => Ok(done),
     }
 }

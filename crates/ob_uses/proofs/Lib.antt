@@ -1,0 +1,4 @@
+pub mod IndexedMembers
+pub mod ArgumentRows
+pub mod Passed
+pub mod WalksOfRules

@@ -1,0 +1,9 @@
+use Rattle.std.proofs.Common.{ap}
+use Rattle.ob_tree.specs.TypeView.{plain_type}
+use Rattle.ob_typed.specs.Conversions.{Checked}
+use Rattle.ob_typed.specs.TypedTree.{TypedExpr}
+use Rattle.ob_uses.proofs.ArgumentRows.{call_node}
+use Rattle.ob_uses.proofs.calls.function_node.Goals as goal
+
+pub returns : goal.returns
+returns c = ap (λ n. Checked.Plain (TypedExpr.Typed c.args.line (plain_type c.args.ty) n)) (call_node c.args.number c.args.es)
