@@ -1,4 +1,4 @@
-use Rattle.std.proofs.Common.{◌≡◌, Some, ap, arith, rules}
+use Rattle.std.proofs.Common.{◌≡◌, Some, arith, rules}
 use Rattle.std.proofs.lemmas.Grind.{common_steps}
 use Rattle.ob_typed.specs.Expressions.{noted}
 use Rattle.ob_scopes.specs.Names.{declared_as, plain_meaning}

@@ -1,8 +1,7 @@
-use Rattle.std.proofs.Common.{◌≡◌, ℕ, ◌<◌, Some, length, slice_get, sym, arith, rules}
+use Rattle.std.proofs.Common.{sym, arith, rules}
 use Rattle.std.proofs.lemmas.Grind.{common_steps}
 use Rattle.std.proofs.lemmas.Option.{slice_get_within}
 use Rattle.ob_tree.specs.TypeView.{plain_type, plain_types}
-use Rattle.ob_typed.specs.TypedTree.{TypedExpr}
 use Rattle.ob_conversions.specs.CheckedView.{mark}
 use Rattle.ob_uses.specs.Passing.{typed_list}
 use Rattle.ob_uses.proofs.Passed.{pass_all, pass_err, pass_few, pass_many, pass_on}
