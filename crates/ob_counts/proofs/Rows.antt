@@ -3,7 +3,6 @@ use Rattle.std.proofs.Common.{◌≡◌, ℕ, ◌+◌, List, [], ◌∷◌, Opti
 use Rattle.std.specs.Prelude.{Vec}
 use Rattle.std.specs.declared.alloc.Global.{Global}
 use Rattle.std.specs.List.{sum_by}
-use Rattle.std.proofs.lemmas.List.Recursion.{is_sum_by}
 use Rattle.ob_tree.specs.declared.expressions.ExprNode as from
 use Rattle.ob_tree.specs.declared.expressions.ExprNode.TheBlock as block
 use Rattle.ob_tree.specs.declared.expressions.ExprNode.TheBlock.{Row_of-Expr, end_of-Expr, more_of-Expr, items-the_row-Expr, items_hidden-the_row-Expr-0, Row_of-Init, end_of-Init, more_of-Init, items-the_row-Init, items_hidden-the_row-Init-1, Row_of-MemberDecl, end_of-MemberDecl, more_of-MemberDecl, items-the_row-MemberDecl, items_hidden-the_row-MemberDecl-2, Row_of-ObjDecl, end_of-ObjDecl, more_of-ObjDecl, items-the_row-ObjDecl, items_hidden-the_row-ObjDecl-3, Row_of-Dim, end_of-Dim, more_of-Dim, items-the_row-Dim, items_hidden-the_row-Dim-4, Dim-length-None', Dim-length-Some'}
@@ -18,15 +17,7 @@ use Rattle.ob_tree.specs.declared.expressions.Dim.{Dim, Dim'}
 use Rattle.ob_tree.specs.declared.expressions.TypeName.{TypeName, out-TypeName, is-TypeName'}
 use Rattle.ob_tree.specs.ExpressionView.{expr_tree, node_tree, argument_row, spec_tree, spec_node_tree, type_tree, member_row, obj_row, obj_tree, held_init, dim_row, init_tree, init_row, one_member, one_dim}
 use Rattle.ob_typed.specs.Counts.{nodes, nodes_of_arguments, nodes_of_type, nodes_of_spec, nodes_of_members, nodes_of_objects, nodes_of_object, nodes_of_dims, nodes_of_init, nodes_of_inits}
-
--- a sum from the first item on
-abbrev total : {A : Type 0} → (A → ℕ) → List A → ℕ
-total f [] = 0
-total f (x ∷ xs) = f x + total f xs
-
--- the sum over a vector, whose items are those of its row
-summed : {A : Type 0} (f : A → ℕ) (xs ys : List A) → xs ≡ ys → total f xs ≡ sum_by f ys
-summed f xs ys h = ap (total f) h ∙ is_sum_by (total f) f refl (λ _ _. refl) ys
+use Rattle.ob_counts.proofs.Sums.{total, summed}
 
 abbrev of_expr : Expr → ℕ
 of_expr e = nodes (expr_tree e)

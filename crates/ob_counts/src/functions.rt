@@ -26,6 +26,7 @@ pub fn nodes_of_function(spec: &Spec, params: &Params, body: &Stmt) -> Result<u6
     Ok(total)
 }
 
+#[tactic(auto, using(crate::proofs::ProgramRows::each_counted))]
 fn add_params(total: &mut u64, params: &Params) -> Result<(), NoMemory>
     ensures { OnOk result (total.new ≡ total.old + nodes_of_params (params_tree params.now)) }
 {
@@ -44,6 +45,7 @@ fn add_each(total: &mut u64, params: &[Param]) -> Result<(), NoMemory>
     Ok(())
 }
 
+#[tactic(auto, using(crate::proofs::ProgramRows::dims_counted))]
 fn add_param(total: &mut u64, param: &Param) -> Result<(), NoMemory>
     ensures { OnOk result (total.new ≡ total.old + nodes_of_each (param_tree param.now ∷ [])) }
 {
@@ -60,6 +62,7 @@ fn add_option(total: &mut u64, e: &Option<Expr>) -> Result<(), NoMemory>
     }
 }
 
+#[tactic(auto, using(crate::proofs::ProgramRows::objects_counted))]
 fn add_local(total: &mut u64, local: &Local) -> Result<(), NoMemory>
     ensures { OnOk result (total.new ≡ total.old + nodes_of_local (local_tree local.now)) }
 {
@@ -91,6 +94,7 @@ fn add_head(
 }
 
 #[cycle(statements)]
+#[tactic(auto, using(crate::proofs::ProgramRows::block_counted))]
 fn add_stmt(total: &mut u64, stmt: &Stmt) -> Result<(), NoMemory>
     ensures { OnOk result (total.new ≡ total.old + nodes_of_stmt (stmt_tree stmt.now)) }
 {
