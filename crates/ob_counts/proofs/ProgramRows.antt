@@ -13,7 +13,7 @@ use Rattle.ob_tree.specs.declared.programs.BlockItem.TheBlock as block
 use Rattle.ob_tree.specs.declared.programs.BlockItem.TheBlock.{Row_of-BlockItem, end_of-BlockItem, more_of-BlockItem, items-the_row-BlockItem, items_hidden-the_row-BlockItem-0}
 use Rattle.ob_tree.specs.declared.programs.Stmt.{Stmt}
 use Rattle.ob_tree.specs.declared.programs.StmtNode as node
-use Rattle.ob_tree.specs.ExpressionView.{node_tree, obj_tree, obj_trees, dim_trees, one_dim}
+use Rattle.ob_tree.specs.ExpressionView.{obj_tree, obj_trees, dim_trees, one_dim}
 use Rattle.ob_tree.specs.ProgramView.{stmt_tree, stmt_node_tree, block_row, one_item, param_tree}
 use Rattle.ob_typed.specs.Counts.{nodes_of_dims, nodes_of_object, nodes_of_objects, nodes_of_stmt, nodes_of_block, nodes_of_each}
 use Rattle.ob_counts.proofs.Sums.{total, summed}
