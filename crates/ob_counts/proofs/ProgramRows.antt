@@ -17,12 +17,7 @@ use Rattle.ob_tree.specs.ExpressionView.{obj_tree, obj_trees, dim_trees, one_dim
 use Rattle.ob_tree.specs.ProgramView.{stmt_tree, stmt_node_tree, block_row, one_item, param_tree}
 use Rattle.ob_typed.specs.Counts.{nodes_of_dims, nodes_of_object, nodes_of_objects, nodes_of_stmt, nodes_of_block, nodes_of_each}
 use Rattle.ob_counts.proofs.Sums.{total, summed}
-
-abbrev of_object : ObjDecl → ℕ
-of_object o = nodes_of_object (obj_tree o)
-
-abbrev of_dim : Dim → ℕ
-of_dim d = nodes_of_dims (one_dim d)
+use Rattle.ob_counts.proofs.Rows.{of_object, of_dim}
 
 abbrev of_param : Param → ℕ
 of_param p = nodes_of_each (param_tree p ∷ [])

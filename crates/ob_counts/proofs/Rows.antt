@@ -25,10 +25,10 @@ of_expr e = nodes (expr_tree e)
 abbrev of_init : Init → ℕ
 of_init i = nodes_of_init (init_tree i)
 
-abbrev of_object : ObjDecl → ℕ
+abbrev pub of_object : ObjDecl → ℕ
 of_object o = nodes_of_object (obj_tree o)
 
-abbrev of_dim : Dim → ℕ
+abbrev pub of_dim : Dim → ℕ
 of_dim d = nodes_of_dims (one_dim d)
 
 abbrev of_member : MemberDecl → ℕ

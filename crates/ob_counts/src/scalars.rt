@@ -8,8 +8,8 @@ use crate::adding::product;
 use ob_base::NoMemory;
 use ob_tree::{CType, Structs};
 
-/// How many numbers and pointers an object of a type holds; none where the type has no size. The type may be of
-/// any size, so this is no call of the crate of sizes, whose numbers stop above the greatest object.
+/// How many numbers and pointers an object of a type holds; none where the type has no size. A tree may name a
+/// type of any size, so this doesn't ask `ob_layout`, whose numbers stop above the greatest object.
 #[tactic(auto, using(crate::proofs::ArrayScalars::scalars_of_array))]
 pub(crate) fn scalars(s: &Structs, t: &CType) -> Result<u64, NoMemory>
     ensures { IfOk result (λ n. n ≡ scalars (plain_structs s.now) (plain_type t.now)) }

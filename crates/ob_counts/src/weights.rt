@@ -12,13 +12,14 @@ use ob_base::NoMemory;
 use ob_tree::Structs;
 use ob_typed::{TExpr, TInit, TStmt};
 
-/// The weight of a function with `locals` automatic objects, parameters included, `nodes` expressions in its tree,
-/// and the body `body`: eight times their sum, the statements of the body, the values, lists and bytes of its
-/// automatic initialisers, the numbers and pointers of the structures that it copies, and 1.
+/// The weight of a function with `locals` automatic objects, parameters included, `nodes` expressions in its
+/// tree, and the body `body`: eight times their sum, the statements of the body, the values, lists and bytes of
+/// its automatic initialisers, the numbers and pointers of the structures that it copies, and 1.
 ///
-/// `NoMemory` says that the weight is 2^64 or more, or that a type in it holds so many numbers and pointers; such a
-/// function would need more memory than there is. Takes no memory itself. The call goes down the tree by recursion, so it needs stack in proportion to the
-/// longest path of the tree, and time in proportion to the tree.
+/// `NoMemory` says that the weight is 2^64 or more, or that a type in it holds so many numbers and pointers;
+/// such a function would need more memory than there is. Takes no memory itself. The call goes down the tree by
+/// recursion, so it needs stack in proportion to the longest path of the tree, and time in proportion to the
+/// tree.
 pub fn weight(s: &Structs, locals: usize, nodes: u64, body: &TStmt) -> Result<u64, NoMemory>
     ensures { IfOk result (λ n. n ≡ weight (plain_structs s.now) locals nodes (typed_stmt body.now)) }
 {
