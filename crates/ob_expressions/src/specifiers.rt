@@ -53,7 +53,7 @@ fn check_struct(
     tag: Option<&Text>,
     lines: &Vec<MemberDecl>,
 ) -> Result<CType, TypeFault>
-    ensures walks { Walks plain_type result (known_of known.new) (check_spec (env_of env.now (stand_of known.old)) (SpecTree.Struct first (option_map (λ t. t.now) tag) (member_trees lines.now.items)) (known_of known.old)) }
+    ensures walks { Walks plain_type result (known_of known.new) (check_spec (env_of env.now (stand_of known.old)) (SpecTree.Struct first (option_map (λ t. t.now) tag.entry) (member_trees lines.now.items)) (known_of known.old)) }
     ensures stays { OnOk result (stand_of known.new ≡ stand_of known.old) }
 {
     let number = opened(alloc, known, tag)?;
