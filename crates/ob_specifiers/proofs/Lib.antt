@@ -1,0 +1,4 @@
+pub mod Ends
+pub mod Declared
+pub mod Pieces
+pub mod Named
