@@ -1,1 +1,6 @@
 pub mod Numbers
+pub mod Placed
+pub mod Members
+pub mod Rows
+pub mod Ends
+pub mod Low

@@ -3,9 +3,16 @@
 //! Stands on `ob_words`, `ob_tree` and `ob_typed`, whose `ConstantValues` are to be believed, and here `Refusal`.
 #![tactic(auto)]
 
+pub use addresses::is_static_value;
 pub use constants::{NotConstant, constant};
+pub use images::{ConstFault, static_image, trimmed};
 
+mod addresses;
 mod constants;
+mod images;
 pub mod laws;
+mod parts;
+mod pieces;
+mod places;
 #[cfg(test)]
 mod tests;
