@@ -4,3 +4,4 @@ pub mod Members
 pub mod Rows
 pub mod Ends
 pub mod Low
+pub mod Distances

@@ -33,7 +33,9 @@ Follow s r i n = (j : ℕ) → row_part s r (i + j) ≡ member_part s (sized n) 
 
 pub follow-start : (s : PlainStructs) (r : Option PlainStruct) → Follow s r 0 0
 follow-start s None j = refl
-follow-start s (Some r) j = size-only s no_layout (sized 0) r.members j refl
+follow-start s (Some r) j =
+    let e : 0 + j ≡ j = omega arith in
+    ap (row_part s (Some r)) e ∙ size-only s no_layout (sized 0) r.members j refl
 
 pub follow-part : (s : PlainStructs) (r : Option PlainStruct) (i n : ℕ) (o : Option PlainMember) → o ≡ slice_get (members_of r) i → Follow s r i n → next_part s n o ≡ row_part s r i
 follow-part s r i n o is h =

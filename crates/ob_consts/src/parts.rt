@@ -73,7 +73,7 @@ pub(crate) fn is_element(count: u64, i: u64) -> bool
 
 /// Member `i` of a row.
 pub(crate) fn member_at(row: Option<&StructRow>, i: usize) -> Option<&MemberRow>
-    ensures { option_map (λ m. plain_member m.now) result ≡ slice_get (members_of (option_map (λ r. plain_struct r.now) row)) i }
+    ensures { option_map (λ m. plain_member m.now) result ≡ slice_get (members_of (option_map (λ r. plain_struct r.now) row.entry)) i }
 {
     match row {
         Some(r) => r.members.get(i),

@@ -22,7 +22,7 @@ use ob_words::{IntType, width, word};
 /// `out`. What an item past the end is for has no type.
 #[cycle(put)]
 pub(crate) fn put_init(out: &mut StaticImage, s: &Structs, at: u64, t: Option<&CType>, init: &TInit) -> Result<(), NoMemory>
-    ensures { OnOk result (plain_image out.new ≡ placed (plain_image out.old) (pieces (plain_structs s.now) (given (option_map (λ u. plain_type u.now) t)) at (typed_init init.now))) }
+    ensures { OnOk result (plain_image out.new ≡ placed (plain_image out.old) (pieces (plain_structs s.now) (given (option_map (λ u. plain_type u.now) t.entry)) at (typed_init init.now))) }
 {
     match init {
         TInit::Value(e) => put_value(out, at, e),
@@ -35,34 +35,38 @@ pub(crate) fn put_init(out: &mut StaticImage, s: &Structs, at: u64, t: Option<&C
 /// Puts the pieces of the items of a list.
 #[cycle(put)]
 fn put_items(out: &mut StaticImage, s: &Structs, at: u64, t: Option<&CType>, items: &[TInit]) -> Result<(), NoMemory>
-    ensures { OnOk result (plain_image out.new ≡ placed (plain_image out.old) (numbered (λ i x. part_pieces (plain_structs s.now) at (part (plain_structs s.now) (given (option_map (λ u. plain_type u.now) t)) i) x) 0 items.now)) }
+    ensures { OnOk result (plain_image out.new ≡ placed (plain_image out.old) (numbered (λ i x. part_pieces (plain_structs s.now) at (part (plain_structs s.now) (given (option_map (λ u. plain_type u.now) t.entry)) i) x) 0 items.now)) }
 {
     match t {
-        Some(CType::Array(element, count)) => put_elements(out, s, at, element, *count, items),
+        Some(CType::Array(element, count)) => {
+            let bytes = bytes_of(s, element)?;
+            put_elements(out, s, at, Some(element), *count, bytes, items)
+        }
         Some(CType::Struct(number)) => put_members(out, s, at, s.row(*number), items),
         _ => put_members(out, s, at, None, items),
     }
 }
 
 #[cycle(put)]
-fn put_elements(out: &mut StaticImage, s: &Structs, at: u64, t: &CType, count: u64, items: &[TInit]) -> Result<(), NoMemory>
-    ensures { OnOk result (plain_image out.new ≡ placed (plain_image out.old) (numbered (λ i x. part_pieces (plain_structs s.now) at (element_part (plain_structs s.now) (plain_type t.now) count i) x) 0 items.now)) }
+fn put_elements(out: &mut StaticImage, s: &Structs, at: u64, t: Option<&CType>, count: u64, bytes: u64, items: &[TInit]) -> Result<(), NoMemory>
+    requires { bytes ≡ size (plain_structs s.now) (given (option_map (λ u. plain_type u.now) t)) }
+    ensures { OnOk result (plain_image out.new ≡ placed (plain_image out.old) (numbered (λ i x. part_pieces (plain_structs s.now) at (element_part (plain_structs s.now) (given (option_map (λ u. plain_type u.now) t.entry)) count i) x) 0 items.now)) }
 {
-    let bytes = bytes_of(s, t)?;
     for (i, item) in items.iter().enumerate() {
         put_element(out, s, at, t, count, bytes, i as u64, item)?;
     }
     Ok(())
 }
 
+/// Puts the pieces of item `i` of an array whose elements have so many bytes.
 #[cycle(put)]
-fn put_element(out: &mut StaticImage, s: &Structs, at: u64, t: &CType, count: u64, bytes: u64, i: u64, item: &TInit) -> Result<(), NoMemory>
-    requires { bytes ≡ size (plain_structs s.now) (plain_type t.now) }
-    ensures { OnOk result (plain_image out.new ≡ placed (plain_image out.old) (part_pieces (plain_structs s.now) at (element_part (plain_structs s.now) (plain_type t.now) count i) item.now)) }
+fn put_element(out: &mut StaticImage, s: &Structs, at: u64, t: Option<&CType>, count: u64, bytes: u64, i: u64, item: &TInit) -> Result<(), NoMemory>
+    requires { bytes ≡ size (plain_structs s.now) (given (option_map (λ u. plain_type u.now) t)) }
+    ensures { OnOk result (plain_image out.new ≡ placed (plain_image out.old) (part_pieces (plain_structs s.now) at (element_part (plain_structs s.now) (given (option_map (λ u. plain_type u.now) t.entry)) count i) item.now)) }
 {
     if is_element(count, i) {
         let offset = element_offset(i, bytes)?;
-        put_init(out, s, sum(at, offset)?, Some(t), item)
+        put_init(out, s, sum(at, offset)?, t, item)
     } else {
         put_init(out, s, at, None, item)
     }
@@ -70,7 +74,7 @@ fn put_element(out: &mut StaticImage, s: &Structs, at: u64, t: &CType, count: u6
 
 #[cycle(put)]
 fn put_members(out: &mut StaticImage, s: &Structs, at: u64, row: Option<&StructRow>, items: &[TInit]) -> Result<(), NoMemory>
-    ensures { OnOk result (plain_image out.new ≡ placed (plain_image out.old) (numbered (λ i x. part_pieces (plain_structs s.now) at (row_part (plain_structs s.now) (option_map (λ r. plain_struct r.now) row) i) x) 0 items.now)) }
+    ensures { OnOk result (plain_image out.new ≡ placed (plain_image out.old) (numbered (λ i x. part_pieces (plain_structs s.now) at (row_part (plain_structs s.now) (option_map (λ r. plain_struct r.now) row.entry) i) x) 0 items.now)) }
 {
     let mut end = 0;
     for (i, item) in items.iter().enumerate() {
@@ -82,8 +86,8 @@ fn put_members(out: &mut StaticImage, s: &Structs, at: u64, row: Option<&StructR
 /// Puts the pieces of a member that follows `before` bytes, and gives where the member ends.
 #[cycle(put)]
 fn put_member(out: &mut StaticImage, s: &Structs, at: u64, member: Option<&MemberRow>, before: u64, item: &TInit) -> Result<u64, NoMemory>
-    ensures placed { OnOk result (plain_image out.new ≡ placed (plain_image out.old) (part_pieces (plain_structs s.now) at (next_part (plain_structs s.now) before (option_map (λ m. plain_member m.now) member)) item.now)) }
-    ensures end { IfOk result (λ r. r ≡ next_end (plain_structs s.now) before (option_map (λ m. plain_member m.now) member)) }
+    ensures placed { OnOk result (plain_image out.new ≡ placed (plain_image out.old) (part_pieces (plain_structs s.now) at (next_part (plain_structs s.now) before (option_map (λ m. plain_member m.now) member.entry)) item.now)) }
+    ensures end { IfOk result (λ r. r ≡ next_end (plain_structs s.now) before (option_map (λ m. plain_member m.now) member.entry)) }
 {
     match member {
         Some(m) => {
