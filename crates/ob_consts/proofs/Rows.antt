@@ -6,7 +6,8 @@ use Rattle.std.specs.List.{list_all}
 use Rattle.ob_tree.specs.Types.{PlainType, PlainStructs}
 use Rattle.ob_tree.specs.Parts.{part}
 use Rattle.ob_typed.specs.declared.statements.TInit as init
-use Rattle.ob_typed.specs.declared.statements.TInit.{TInit, Row_of-TInit, end_of-TInit, more_of-TInit, items-the_row-TInit, items_hidden-the_row-TInit-0, hidden-the_row-TInit-0}
+use Rattle.ob_typed.specs.declared.statements.TInit.{TInit, Row_of-TInit, end_of-TInit, more_of-TInit, items-the_row-TInit, items_hidden-the_row-TInit-0}
+use Rattle.ob_typed.specs.declared.statements.TInit.TheBlock as block
 use Rattle.ob_typed.specs.Images.{Piece, item_pieces, pieces}
 use Rattle.ob_typed.specs.TypedView.{init_row, typed_init}
 use Rattle.ob_consts.specs.ConstantItems.{are_constant_items, are_constants}
@@ -21,7 +22,7 @@ pub list-pieces : (s : PlainStructs) (t : PlainType) (at : ℕ) (x : TInit) (ite
     pieces s t at (typed_init x) ≡ numbered (λ j y. part_pieces s at (part s t j) y) 0 items.items
 list-pieces s t at x items is =
     ap (λ y. pieces s t at (typed_init y)) is
-    ∙ row-pieces s t at 0 _ (hidden-the_row-TInit-0 items)
+    ∙ row-pieces s t at 0 _ (block.hidden-the_row-TInit-0 items)
     ∙ ap (numbered (λ j y. part_pieces s at (part s t j) y) 0) (items_hidden-the_row-TInit-0 items)
 
 row-constants : (s : PlainStructs) (ts : List PlainType) (n : _) (row : Row_of-TInit n) →
@@ -33,5 +34,5 @@ pub list-constants : (s : PlainStructs) (ts : List PlainType) (x : TInit) (items
     are_constants s ts (typed_init x) ≡ list_all (λ y. are_constants s ts (typed_init y)) items.items
 list-constants s ts x items is =
     ap (λ y. are_constants s ts (typed_init y)) is
-    ∙ row-constants s ts _ (hidden-the_row-TInit-0 items)
+    ∙ row-constants s ts _ (block.hidden-the_row-TInit-0 items)
     ∙ ap (list_all (λ y. are_constants s ts (typed_init y))) (items_hidden-the_row-TInit-0 items)

@@ -11,10 +11,10 @@ pub returns-then-minus : goal.returns-then-minus
 returns-then-minus c =
     let on : c.args.minus ≡ true = first_of (search rules, grind (arith, common_steps)) in
     let fits : c.args.scale < 2 ^ 64 = first_of (search rules, grind (arith, common_steps)) in
-    back c.args.minus c.args.scale c.args.n c.convert.result on fits (c.convert.ensures.value ∙ ap (convert Long) (to_z-of_z w128 c.args.n c.ranges.n.sfits)) c.convert.ensures.meaning.is_number
+    back c.args.minus c.args.scale c.args.n c.convert.result on fits (c.convert.ensures.value ∙ ap (convert Long) (to_z-of_z w128 c.args.n c.ranges.n)) c.convert.ensures.meaning.is_number
 
 pub returns-else-minus : goal.returns-else-minus
 returns-else-minus c =
     let off : c.args.minus ≡ false = first_of (search rules, grind (arith, common_steps)) in
     let fits : c.args.scale < 2 ^ 64 = first_of (search rules, grind (arith, common_steps)) in
-    forward c.args.minus c.args.scale c.args.n c.convert.result off fits (c.convert.ensures.value ∙ ap (convert Long) (to_z-of_z w128 c.args.n c.ranges.n.sfits)) c.convert.ensures.meaning.is_number
+    forward c.args.minus c.args.scale c.args.n c.convert.result off fits (c.convert.ensures.value ∙ ap (convert Long) (to_z-of_z w128 c.args.n c.ranges.n)) c.convert.ensures.meaning.is_number
