@@ -27,7 +27,13 @@ pub enum ConstFault {
 /// static objects, in order of number. `NotConstant` comes exactly where an item is no constant (6.6), unless
 /// memory ends before; `NoMemory` also where a part's type isn't complete, or its place is past 2^64 bytes,
 /// which no part of a complete type is.
-pub fn static_image(alloc: Global, s: &Structs, statics: &Vec<CType>, t: &CType, init: &TInit) -> Result<StaticImage, ConstFault>
+pub fn static_image(
+    alloc: Global,
+    s: &Structs,
+    statics: &Vec<CType>,
+    t: &CType,
+    init: &TInit,
+) -> Result<StaticImage, ConstFault>
     ensures { ImageAnswers result (are_constants (plain_structs s.now) (plain_types statics.now.items) (typed_init init.now)) (image (plain_structs s.now) (plain_type t.now) (typed_init init.now)) }
 {
     if !are_constants(s, statics, init) {

@@ -21,7 +21,13 @@ use ob_words::{IntType, width, word};
 /// Puts the pieces of an initialiser of a part of type `t`, which stands at byte `at`, behind those of
 /// `out`. What an item past the end is for has no type.
 #[cycle(put)]
-pub(crate) fn put_init(out: &mut StaticImage, s: &Structs, at: u64, t: Option<&CType>, init: &TInit) -> Result<(), NoMemory>
+pub(crate) fn put_init(
+    out: &mut StaticImage,
+    s: &Structs,
+    at: u64,
+    t: Option<&CType>,
+    init: &TInit,
+) -> Result<(), NoMemory>
     ensures { OnOk result (plain_image out.new ≡ placed (plain_image out.old) (pieces (plain_structs s.now) (given (option_map (λ u. plain_type u.now) t.entry)) at (typed_init init.now))) }
 {
     match init {
@@ -34,7 +40,13 @@ pub(crate) fn put_init(out: &mut StaticImage, s: &Structs, at: u64, t: Option<&C
 
 /// Puts the pieces of the items of a list.
 #[cycle(put)]
-fn put_items(out: &mut StaticImage, s: &Structs, at: u64, t: Option<&CType>, items: &[TInit]) -> Result<(), NoMemory>
+fn put_items(
+    out: &mut StaticImage,
+    s: &Structs,
+    at: u64,
+    t: Option<&CType>,
+    items: &[TInit],
+) -> Result<(), NoMemory>
     ensures { OnOk result (plain_image out.new ≡ placed (plain_image out.old) (numbered (λ i x. part_pieces (plain_structs s.now) at (part (plain_structs s.now) (given (option_map (λ u. plain_type u.now) t.entry)) i) x) 0 items.now)) }
 {
     match t {
@@ -48,7 +60,15 @@ fn put_items(out: &mut StaticImage, s: &Structs, at: u64, t: Option<&CType>, ite
 }
 
 #[cycle(put)]
-fn put_elements(out: &mut StaticImage, s: &Structs, at: u64, t: Option<&CType>, count: u64, bytes: u64, items: &[TInit]) -> Result<(), NoMemory>
+fn put_elements(
+    out: &mut StaticImage,
+    s: &Structs,
+    at: u64,
+    t: Option<&CType>,
+    count: u64,
+    bytes: u64,
+    items: &[TInit],
+) -> Result<(), NoMemory>
     requires { bytes ≡ size (plain_structs s.now) (given (option_map (λ u. plain_type u.now) t)) }
     ensures { OnOk result (plain_image out.new ≡ placed (plain_image out.old) (numbered (λ i x. part_pieces (plain_structs s.now) at (element_part (plain_structs s.now) (given (option_map (λ u. plain_type u.now) t.entry)) count i) x) 0 items.now)) }
 {
@@ -60,7 +80,16 @@ fn put_elements(out: &mut StaticImage, s: &Structs, at: u64, t: Option<&CType>, 
 
 /// Puts the pieces of item `i` of an array whose elements have so many bytes.
 #[cycle(put)]
-fn put_element(out: &mut StaticImage, s: &Structs, at: u64, t: Option<&CType>, count: u64, bytes: u64, i: u64, item: &TInit) -> Result<(), NoMemory>
+fn put_element(
+    out: &mut StaticImage,
+    s: &Structs,
+    at: u64,
+    t: Option<&CType>,
+    count: u64,
+    bytes: u64,
+    i: u64,
+    item: &TInit,
+) -> Result<(), NoMemory>
     requires { bytes ≡ size (plain_structs s.now) (given (option_map (λ u. plain_type u.now) t)) }
     ensures { OnOk result (plain_image out.new ≡ placed (plain_image out.old) (part_pieces (plain_structs s.now) at (element_part (plain_structs s.now) (given (option_map (λ u. plain_type u.now) t.entry)) count i) item.now)) }
 {
@@ -73,7 +102,13 @@ fn put_element(out: &mut StaticImage, s: &Structs, at: u64, t: Option<&CType>, c
 }
 
 #[cycle(put)]
-fn put_members(out: &mut StaticImage, s: &Structs, at: u64, row: Option<&StructRow>, items: &[TInit]) -> Result<(), NoMemory>
+fn put_members(
+    out: &mut StaticImage,
+    s: &Structs,
+    at: u64,
+    row: Option<&StructRow>,
+    items: &[TInit],
+) -> Result<(), NoMemory>
     ensures { OnOk result (plain_image out.new ≡ placed (plain_image out.old) (numbered (λ i x. part_pieces (plain_structs s.now) at (row_part (plain_structs s.now) (option_map (λ r. plain_struct r.now) row.entry) i) x) 0 items.now)) }
 {
     let mut end = 0;
@@ -85,7 +120,14 @@ fn put_members(out: &mut StaticImage, s: &Structs, at: u64, row: Option<&StructR
 
 /// Puts the pieces of a member that follows `before` bytes, and gives where the member ends.
 #[cycle(put)]
-fn put_member(out: &mut StaticImage, s: &Structs, at: u64, member: Option<&MemberRow>, before: u64, item: &TInit) -> Result<u64, NoMemory>
+fn put_member(
+    out: &mut StaticImage,
+    s: &Structs,
+    at: u64,
+    member: Option<&MemberRow>,
+    before: u64,
+    item: &TInit,
+) -> Result<u64, NoMemory>
     ensures placed { OnOk result (plain_image out.new ≡ placed (plain_image out.old) (part_pieces (plain_structs s.now) at (next_part (plain_structs s.now) before (option_map (λ m. plain_member m.now) member.entry)) item.now)) }
     ensures end { IfOk result (λ r. r ≡ next_end (plain_structs s.now) before (option_map (λ m. plain_member m.now) member.entry)) }
 {
@@ -112,7 +154,12 @@ fn put_value(out: &mut StaticImage, at: u64, e: &TExpr) -> Result<(), NoMemory>
     }
 }
 
-fn put_number(out: &mut StaticImage, at: u64, kind: IntType, z: Option<i128>) -> Result<(), NoMemory>
+fn put_number(
+    out: &mut StaticImage,
+    at: u64,
+    kind: IntType,
+    z: Option<i128>,
+) -> Result<(), NoMemory>
     ensures { OnOk result (plain_image out.new ≡ placed (plain_image out.old) (number_piece at kind z)) }
 {
     match z {

@@ -24,6 +24,6 @@ returns c =
     let kept : c.from_vec.result ≡ take c.loop-len.len c.into_vec-bytes.result.items = first_of (search rules, grind (arith, common_steps)) in
     let same : c.into_vec-bytes.result.items ≡ c.args.bytes = first_of (search rules, grind (arith, common_steps)) in
     kept ∙ (elim c.loop-len-test.branch [
-      then-loop-len-test+else-index-eq0 w ↦ none_gone bs n w.index.result.now (first_of (search rules, grind (arith, common_steps))) c.loop-len.invariant.within (first_of (search rules, grind (arith, common_steps))) (first_of (search rules, grind (arith, common_steps))) c.loop-len.invariant.kept
+      | then-loop-len-test+else-index-eq0 w ↦ none_gone bs n w.index.result.now (first_of (search rules, grind (arith, common_steps))) c.loop-len.invariant.within (first_of (search rules, grind (arith, common_steps))) (first_of (search rules, grind (arith, common_steps))) c.loop-len.invariant.kept
       | else-loop-len-test w ↦ all_gone bs n (first_of (search rules, grind (arith, common_steps))) c.loop-len.invariant.kept
     ]) ∙ ap trimmed same

@@ -41,6 +41,6 @@ put_members-loop-i-preserved t c =
     let part_is = follow-part s r c.loop-i.i c.loop-i.end o is c.loop-i.invariant.follow in
     record {
       placed = turn (λ i y. part_pieces s c.args.at (row_part s r i) y) (plain_image c.args.out.now) (plain_image c.loop-i.out) (plain_image c.put_member.new.out) c.args.items.now c.loop-i.i c.index-items-i.result h x c.loop-i.invariant.placed
-      (a ∙ ap (λ p. placed (plain_image c.loop-i.out) (part_pieces s c.args.at p c.index-items-i.result)) part_is);
+          (a ∙ ap (λ p. placed (plain_image c.loop-i.out) (part_pieces s c.args.at p c.index-items-i.result)) part_is);
       follow = follow-turn s r c.loop-i.i c.loop-i.end c.in_ok-end.end o is e c.loop-i.invariant.follow;
     }
