@@ -1,1 +1,7 @@
 pub mod Numbers
+pub mod Placed
+pub mod Members
+pub mod Rows
+pub mod Ends
+pub mod Low
+pub mod Distances
