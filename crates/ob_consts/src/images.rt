@@ -1,7 +1,7 @@
 ghost use Rattle.std.specs.Prelude.{◌≡◌, IfOk};
 ghost use Rattle.ob_tree.specs.StructsView.{plain_structs};
 ghost use Rattle.ob_tree.specs.TypeView.{plain_type, plain_types};
-ghost use Rattle.ob_typed.specs.Images.{image, pieces, placed_bytes, placed_pointers};
+ghost use Rattle.ob_typed.specs.Images.{image};
 ghost use Rattle.ob_typed.specs.Strings.{trimmed};
 ghost use Rattle.ob_typed.specs.TypedView.{plain_image, typed_init};
 ghost use Rattle.ob_consts.specs.ConstantItems.{are_constants};
@@ -24,9 +24,10 @@ pub enum ConstFault {
 
 /// What a static object of type `t` with this initialiser holds at the start (C99 6.7.8): its bytes up to
 /// the last that isn't 0, and the pointers in it, in order of their places. `statics` has the types of the
-/// static objects, in order of number. `NotConstant` comes exactly where an item is no constant (6.6), unless
-/// memory ends before; `NoMemory` also where a part's type isn't complete, or its place is past 2^64 bytes,
-/// which no part of a complete type is.
+/// static objects, in order of number. `NotConstant` comes exactly where an item is no constant (6.6). Where
+/// each is one, `NoMemory` comes for want of memory, and where an item is for a part of a type that isn't
+/// complete, or a place or an offset has 2^64 bytes or more before it. The last two aren't so where `t`, with
+/// the lengths of its arrays, and the types of `statics` are complete.
 pub fn static_image(
     alloc: Global,
     s: &Structs,

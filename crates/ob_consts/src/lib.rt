@@ -3,7 +3,7 @@
 //! put together in one walk over the items of its initialiser, as deep as these stand one in another; a
 //! value is judged without memory. Stands on `ob_base`, `ob_words`, `ob_tree`, `ob_typed` and `ob_layout`, whose
 //! definitions are to be believed (`ConstantValues`, `AddressConstants` and `Images` of `ob_typed`), and here
-//! `Refusal`, `ConstantItems` and `ImageAnswers`; `Placing` and `Shown` serve the proof. Tests of images stand in
+//! `Refusal`, `ConstantItems` and `ImageAnswers`; `Placing` and `Shown` serve the proof. Tests stand in
 //! `ob_consts_trials`.
 #![tactic(auto)]
 
@@ -18,5 +18,3 @@ pub mod laws;
 mod parts;
 mod pieces;
 mod places;
-#[cfg(test)]
-mod tests;
