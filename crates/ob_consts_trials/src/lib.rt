@@ -1,5 +1,7 @@
-//! Tests of the images of static objects: numbers of each width, strings with and without their zero,
-//! addresses at and past the end of their object, and lists in lists. Stands on `ob_consts`; nothing stands on it.
+//! Tests of `ob_consts`: the values of constant expressions, divisions by zero in parts that are evaluated
+//! and in others; addresses at the ends of their object and one past them; images of numbers of each type,
+//! strings, lists in lists and pointers; what is no constant; parts of the greatest size; large initialisers.
+//! Stands on `ob_consts`; nothing stands on it.
 #![tactic(auto)]
 
 #[cfg(test)]
