@@ -5,3 +5,4 @@ pub mod Rows
 pub mod Ends
 pub mod Low
 pub mod Distances
+pub mod Statics

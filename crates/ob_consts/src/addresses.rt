@@ -1,15 +1,16 @@
-ghost use Rattle.std.specs.Prelude.{◌≡◌, ◌*◌, ◌^◌, pos, min, option_and_then, option_map, slice_get};
+ghost use Rattle.std.specs.Prelude.{◌≡◌, ◌*◌, ◌^◌, ◌&&◌, int_le, map, pos, min, option_and_then, option_map, slice_get};
 ghost use Rattle.ob_tree.specs.TypeView.{plain_type, plain_types};
 ghost use Rattle.ob_tree.specs.StructsView.{plain_structs};
 ghost use Rattle.ob_tree.specs.Sizes.{size};
 ghost use Rattle.ob_typed.specs.AddressConstants.{address, distance, is_inside, is_near, is_pointer_constant, is_static_value, object_size, offset_by, slid};
-ghost use Rattle.ob_typed.specs.TypedView.{typed_expr, typed_lean, typed_node};
+ghost use Rattle.ob_typed.specs.Initialisers.{static_types};
+ghost use Rattle.ob_typed.specs.TypedView.{typed_expr, typed_lean, typed_node, typed_object};
 ghost use Rattle.ob_consts.specs.Shown.{shown};
 
 use crate::constants::value;
 use crate::places::StaticPlace;
 use ob_tree::{CType, Structs};
-use ob_typed::{TExpr, TLean, TNode};
+use ob_typed::{TExpr, TLean, TNode, TStatic};
 use ob_words::{IntType, convert, width};
 
 /// Offsets lie between this and its negative.
@@ -34,6 +35,28 @@ fn is_pointer_constant(s: &Structs, statics: &Vec<CType>, node: &TNode) -> bool
     match node {
         TNode::Null => true,
         TNode::Lean(l) => is_inside(s, statics, address(l)),
+        _ => false,
+    }
+}
+
+/// Whether the initialiser of a static object may have this value, beside static objects as they are: those that `statics`
+/// has, in order of number.
+pub fn is_value_beside(s: &Structs, statics: &Vec<TStatic>, e: &TExpr) -> bool
+    ensures { result ≡ is_static_value (plain_structs s.now) (static_types (map typed_object statics.now.items)) (typed_expr e.now) }
+{
+    match &e.ty {
+        CType::Int(_) => value(e).is_some(),
+        CType::Pointer(_) => is_pointer_beside(s, statics, &e.node),
+        _ => false,
+    }
+}
+
+fn is_pointer_beside(s: &Structs, statics: &Vec<TStatic>, node: &TNode) -> bool
+    ensures { result ≡ is_pointer_constant (plain_structs s.now) (static_types (map typed_object statics.now.items)) (typed_node node.now) }
+{
+    match node {
+        TNode::Null => true,
+        TNode::Lean(l) => is_inside_one(s, statics, address(l)),
         _ => false,
     }
 }
@@ -112,16 +135,48 @@ fn is_inside(s: &Structs, statics: &Vec<CType>, a: Option<StaticPlace>) -> bool
     ensures { result ≡ is_inside (plain_structs s.now) (plain_types statics.now.items) (option_map shown a) }
 {
     match a {
-        Some(b) => 0 <= b.offset && b.offset <= reach(s, statics, b.target),
+        Some(b) => is_within(s, statics.get(b.target as usize), b),
         None => false,
     }
 }
 
-/// The bytes of a static object, as far as offsets go.
-fn reach(s: &Structs, statics: &Vec<CType>, target: u32) -> i128
-    ensures { result ≡ pos (min (object_size (plain_structs s.now) (slice_get (plain_types statics.now.items) target)) (2 ^ 126)) }
+fn is_inside_one(s: &Structs, statics: &Vec<TStatic>, a: Option<StaticPlace>) -> bool
+    ensures { result ≡ is_inside (plain_structs s.now) (static_types (map typed_object statics.now.items)) (option_map shown a) }
 {
-    match statics.get(target as usize) {
+    match a {
+        Some(b) => is_within(s, type_at(statics, b.target), b),
+        None => false,
+    }
+}
+
+/// The type of a static object.
+fn type_at(statics: &Vec<TStatic>, target: u32) -> Option<&CType>
+    ensures { option_map (λ t. plain_type t.now) result ≡ slice_get (static_types (map typed_object statics.now.items)) target }
+{
+    match object_at(statics, target as usize) {
+        Some(o) => Some(&o.ty),
+        None => None,
+    }
+}
+
+fn object_at(statics: &Vec<TStatic>, place: usize) -> Option<&TStatic>
+    ensures { option_map (λ o. o.now) result ≡ slice_get statics.now.items place }
+{
+    statics.get(place)
+}
+
+/// Whether an offset lies in an object of this type, or at its end.
+fn is_within(s: &Structs, t: Option<&CType>, a: StaticPlace) -> bool
+    ensures { result ≡ (int_le (pos 0) a.offset && int_le a.offset (pos (object_size (plain_structs s.now) (option_map (λ u. plain_type u.now) t.entry)))) }
+{
+    0 <= a.offset && a.offset <= reach(s, t)
+}
+
+/// The bytes of an object of this type, as far as offsets go.
+fn reach(s: &Structs, t: Option<&CType>) -> i128
+    ensures { result ≡ pos (min (object_size (plain_structs s.now) (option_map (λ u. plain_type u.now) t.entry)) (2 ^ 126)) }
+{
+    match t {
         Some(t) => bytes_of(s, t) as i128,
         None => 0,
     }

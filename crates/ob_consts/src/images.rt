@@ -40,7 +40,7 @@ pub fn static_image(
     if !are_constants(s, statics, init) {
         return Err(ConstFault::NotConstant);
     }
-    match image(alloc, s, t, init) {
+    match initial_image(alloc, s, t, init) {
         Ok(i) => Ok(i),
         Err(_) => Err(ConstFault::NoMemory),
     }
@@ -59,7 +59,9 @@ pub fn trimmed(bytes: Text) -> Text
     Text::from_vec(bytes)
 }
 
-fn image(alloc: Global, s: &Structs, t: &CType, init: &TInit) -> Result<StaticImage, NoMemory>
+/// What a static object of type `t` with this initialiser, whose items are judged to be constants, holds at the start: as
+/// [`static_image`], which judges them.
+pub fn initial_image(alloc: Global, s: &Structs, t: &CType, init: &TInit) -> Result<StaticImage, NoMemory>
     ensures { IfOk result (λ i. plain_image i ≡ image (plain_structs s.now) (plain_type t.now) (typed_init init.now)) }
 {
     let mut whole = StaticImage {

@@ -7,9 +7,9 @@
 //! `ob_consts_trials`.
 #![tactic(auto)]
 
-pub use addresses::is_static_value;
+pub use addresses::{is_static_value, is_value_beside};
 pub use constants::{NotConstant, constant};
-pub use images::{ConstFault, static_image, trimmed};
+pub use images::{ConstFault, initial_image, static_image, trimmed};
 
 mod addresses;
 mod constants;
