@@ -18,12 +18,20 @@ pub struct NotConstant;
 pub fn constant(e: &TExpr) -> Result<i128, NotConstant>
     ensures { Answers result (constant (typed_expr e.now)) }
 {
-    if !is_constant_form(e) {
-        return Err(NotConstant);
-    }
-    match evaluated(e) {
+    match value(e) {
         Some(z) => Ok(z),
         None => Err(NotConstant),
+    }
+}
+
+/// The value of an integer constant expression, `None` where `e` has none.
+pub(crate) fn value(e: &TExpr) -> Option<i128>
+    ensures { result ≡ constant (typed_expr e.now) }
+{
+    if is_constant_form(e) {
+        evaluated(e)
+    } else {
+        None
     }
 }
 

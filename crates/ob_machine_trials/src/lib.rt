@@ -4,6 +4,4 @@
 #![tactic(auto)]
 
 #[cfg(test)]
-mod strays;
-#[cfg(test)]
 mod tests;
