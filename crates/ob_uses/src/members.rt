@@ -4,7 +4,7 @@ ghost use Rattle.ob_tree.specs.declared.faults.TypeFault.TheVariants.{Fault};
 ghost use Rattle.ob_tree.specs.declared.faults.TypeKind.TheVariants as kind;
 ghost use Rattle.ob_tree.specs.Sizes.{member};
 ghost use Rattle.ob_tree.specs.StructsView.{plain_structs};
-ghost use Rattle.ob_tree.specs.TypeView.{plain_members, plain_struct, plain_type};
+ghost use Rattle.ob_tree.specs.TypeView.{plain_struct, plain_type};
 ghost use Rattle.ob_typed.specs.Conversions.{Checked as PlainChecked};
 ghost use Rattle.ob_typed.specs.Faults.{place_behind};
 ghost use Rattle.ob_typed.specs.Places.{pointed_to};
