@@ -6,7 +6,7 @@
 //! `ob_conversions`, `ob_rules` and `ob_context`.
 //!
 //! To be believed are the rules of `ob_typed` (`PostfixRules`, `Expressions`); and here `ArgumentView`, which reads arguments
-//! as the definition's.
+//! as the definition's. `MemberTypes` and `Passing` serve the proof.
 #![tactic(auto)]
 
 pub use arguments::Argument;
