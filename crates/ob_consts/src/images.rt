@@ -61,7 +61,12 @@ pub fn trimmed(bytes: Text) -> Text
 
 /// What a static object of type `t` with this initialiser, whose items are judged to be constants, holds at the start: as
 /// [`static_image`], which judges them.
-pub fn initial_image(alloc: Global, s: &Structs, t: &CType, init: &TInit) -> Result<StaticImage, NoMemory>
+pub fn initial_image(
+    alloc: Global,
+    s: &Structs,
+    t: &CType,
+    init: &TInit,
+) -> Result<StaticImage, NoMemory>
     ensures { IfOk result (λ i. plain_image i ≡ image (plain_structs s.now) (plain_type t.now) (typed_init init.now)) }
 {
     let mut whole = StaticImage {

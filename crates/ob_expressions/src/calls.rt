@@ -35,20 +35,19 @@ pub(crate) fn check_call(
 
 /// The arguments of a call.
 #[cycle(check)]
-fn check_arguments(alloc: Global, env: &Env, known: &mut Known, es: &Vec<Expr>) -> Result<Vec<Argument>, TypeFault>
+fn check_arguments(
+    alloc: Global,
+    env: &Env,
+    known: &mut Known,
+    es: &Vec<Expr>,
+) -> Result<Vec<Argument>, TypeFault>
     ensures walks { Walks (λ given. arguments given.items) result (known_of known.new) (check_arguments (env_of env.now (stand_of known.old)) [] (expr_trees es.now.items) (known_of known.old)) }
     ensures stays { OnOk result (stand_of known.new ≡ stand_of known.old) }
 {
     let mut given = Vec::new(alloc);
     for e in es {
         let is = check(alloc, env, known, e)?;
-        push_on(
-            &mut given,
-            Argument {
-                first: e.first,
-                is,
-            },
-        )?;
+        push_on(&mut given, Argument { first: e.first, is })?;
     }
     Ok(given)
 }

@@ -13,16 +13,16 @@ ghost use Rattle.ob_context.specs.Walks.{Walks};
 
 use crate::calls::check_call;
 use crate::operands::{
-    check_arrow, check_assign, check_binary, check_cast, check_comma, check_cond, check_index, check_member,
-    check_size, check_size_of_type, check_step, check_unary,
+    check_arrow, check_assign, check_binary, check_cast, check_comma, check_cond, check_index,
+    check_member, check_size, check_size_of_type, check_step, check_unary,
 };
-use ob_context::{Env, Known, mark_of};
-use ob_conversions::types::pointer_to;
-use ob_conversions::fitting::null;
-use ob_conversions::{Checked, Mark};
-use ob_conversions::numbers::number;
-use ob_specifiers::{joined, string};
 use ob_base::{NoMemory, Text};
+use ob_context::{Env, Known, mark_of};
+use ob_conversions::fitting::null;
+use ob_conversions::numbers::number;
+use ob_conversions::types::pointer_to;
+use ob_conversions::{Checked, Mark};
+use ob_specifiers::{joined, string};
 use ob_tree::{CType, Expr, ExprNode, TypeFault};
 use ob_uses::name_rule;
 use ob_words::IntType;
@@ -70,7 +70,12 @@ fn null_constant(alloc: Global, m: Mark) -> Result<Checked, NoMemory>
 }
 
 /// Neighbouring string literals (C99 6.4.5).
-fn string_literal(alloc: Global, known: &mut Known, m: Mark, strings: &Vec<Text>) -> Result<Checked, TypeFault>
+fn string_literal(
+    alloc: Global,
+    known: &mut Known,
+    m: Mark,
+    strings: &Vec<Text>,
+) -> Result<Checked, TypeFault>
     ensures walks { Walks checked result (known_of known.new) (string (mark m) (joined_bytes strings.now.items) (known_of known.old)) }
     ensures stays { OnOk result (stand_of known.new ≡ stand_of known.old) }
 {

@@ -19,7 +19,12 @@ use std::alloc::Global;
 
 /// The lengths in brackets, the first of them first. Brackets without one have the length 0.
 #[cycle(check)]
-pub fn check_lengths(alloc: Global, env: &Env, known: &mut Known, dims: &Vec<Dim>) -> Result<Vec<u64>, TypeFault>
+pub fn check_lengths(
+    alloc: Global,
+    env: &Env,
+    known: &mut Known,
+    dims: &Vec<Dim>,
+) -> Result<Vec<u64>, TypeFault>
     ensures walks { Walks (λ ns. ns.items) result (known_of known.new) (check_lengths (env_of env.now (stand_of known.old)) [] (dim_trees dims.now.items) (known_of known.old)) }
     ensures stays { OnOk result (stand_of known.new ≡ stand_of known.old) }
 {

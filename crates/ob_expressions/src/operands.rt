@@ -13,14 +13,24 @@ use ob_base::{Text, let_go};
 use ob_context::{Env, Known, beside_part};
 use ob_conversions::values::{type_of, value, values};
 use ob_conversions::{Checked, Mark};
-use ob_rules::{assignment_rule, binary_rule, cast_rule, comma_rule, cond_rule, index_rule, size_rule, step_rule, unary_rule};
+use ob_rules::{
+    assignment_rule, binary_rule, cast_rule, comma_rule, cond_rule, index_rule, size_rule,
+    step_rule, unary_rule,
+};
 use ob_tree::{Expr, Sign, TypeFault, TypeName};
 use ob_uses::{arrow_rule, member_rule};
 use std::alloc::Global;
 
 /// `a[b]` (C99 6.5.2.1).
 #[cycle(check)]
-pub(crate) fn check_index(alloc: Global, env: &Env, known: &mut Known, m: Mark, a: &Expr, b: &Expr) -> Result<Checked, TypeFault>
+pub(crate) fn check_index(
+    alloc: Global,
+    env: &Env,
+    known: &mut Known,
+    m: Mark,
+    a: &Expr,
+    b: &Expr,
+) -> Result<Checked, TypeFault>
     ensures walks { Walks checked result (known_of known.new) (check (env_of env.now (stand_of known.old)) (ExprTree.Index (mark m) (expr_tree a.now) (expr_tree b.now)) (known_of known.old)) }
     ensures stays { OnOk result (stand_of known.new ≡ stand_of known.old) }
 {
@@ -32,7 +42,14 @@ pub(crate) fn check_index(alloc: Global, env: &Env, known: &mut Known, m: Mark, 
 
 /// `a.name` (C99 6.5.2.3).
 #[cycle(check)]
-pub(crate) fn check_member(alloc: Global, env: &Env, known: &mut Known, m: Mark, a: &Expr, name: &Text) -> Result<Checked, TypeFault>
+pub(crate) fn check_member(
+    alloc: Global,
+    env: &Env,
+    known: &mut Known,
+    m: Mark,
+    a: &Expr,
+    name: &Text,
+) -> Result<Checked, TypeFault>
     ensures walks { Walks checked result (known_of known.new) (check (env_of env.now (stand_of known.old)) (ExprTree.Member (mark m) (expr_tree a.now) name.now) (known_of known.old)) }
     ensures stays { OnOk result (stand_of known.new ≡ stand_of known.old) }
 {
@@ -42,7 +59,14 @@ pub(crate) fn check_member(alloc: Global, env: &Env, known: &mut Known, m: Mark,
 
 /// `a->name` (C99 6.5.2.3).
 #[cycle(check)]
-pub(crate) fn check_arrow(alloc: Global, env: &Env, known: &mut Known, m: Mark, a: &Expr, name: &Text) -> Result<Checked, TypeFault>
+pub(crate) fn check_arrow(
+    alloc: Global,
+    env: &Env,
+    known: &mut Known,
+    m: Mark,
+    a: &Expr,
+    name: &Text,
+) -> Result<Checked, TypeFault>
     ensures walks { Walks checked result (known_of known.new) (check (env_of env.now (stand_of known.old)) (ExprTree.Arrow (mark m) (expr_tree a.now) name.now) (known_of known.old)) }
     ensures stays { OnOk result (stand_of known.new ≡ stand_of known.old) }
 {
@@ -53,7 +77,15 @@ pub(crate) fn check_arrow(alloc: Global, env: &Env, known: &mut Known, m: Mark, 
 
 /// `++` and `--` (C99 6.5.2.4, 6.5.3.1).
 #[cycle(check)]
-pub(crate) fn check_step(alloc: Global, env: &Env, known: &mut Known, m: Mark, post: bool, down: bool, a: &Expr) -> Result<Checked, TypeFault>
+pub(crate) fn check_step(
+    alloc: Global,
+    env: &Env,
+    known: &mut Known,
+    m: Mark,
+    post: bool,
+    down: bool,
+    a: &Expr,
+) -> Result<Checked, TypeFault>
     ensures walks { Walks checked result (known_of known.new) (check (env_of env.now (stand_of known.old)) (ExprTree.Step (mark m) post down (expr_tree a.now)) (known_of known.old)) }
     ensures stays { OnOk result (stand_of known.new ≡ stand_of known.old) }
 {
@@ -63,7 +95,14 @@ pub(crate) fn check_step(alloc: Global, env: &Env, known: &mut Known, m: Mark, p
 
 /// A unary operator (C99 6.5.3).
 #[cycle(check)]
-pub(crate) fn check_unary(alloc: Global, env: &Env, known: &mut Known, m: Mark, sign: Sign, a: &Expr) -> Result<Checked, TypeFault>
+pub(crate) fn check_unary(
+    alloc: Global,
+    env: &Env,
+    known: &mut Known,
+    m: Mark,
+    sign: Sign,
+    a: &Expr,
+) -> Result<Checked, TypeFault>
     ensures walks { Walks checked result (known_of known.new) (check (env_of env.now (stand_of known.old)) (ExprTree.Unary (mark m) sign (expr_tree a.now)) (known_of known.old)) }
     ensures stays { OnOk result (stand_of known.new ≡ stand_of known.old) }
 {
@@ -73,7 +112,13 @@ pub(crate) fn check_unary(alloc: Global, env: &Env, known: &mut Known, m: Mark, 
 
 /// `sizeof` before an expression (C99 6.5.3.4).
 #[cycle(check)]
-pub(crate) fn check_size(alloc: Global, env: &Env, known: &mut Known, m: Mark, a: &Expr) -> Result<Checked, TypeFault>
+pub(crate) fn check_size(
+    alloc: Global,
+    env: &Env,
+    known: &mut Known,
+    m: Mark,
+    a: &Expr,
+) -> Result<Checked, TypeFault>
     ensures walks { Walks checked result (known_of known.new) (check (env_of env.now (stand_of known.old)) (ExprTree.SizeExpr (mark m) (expr_tree a.now)) (known_of known.old)) }
     ensures stays { OnOk result (stand_of known.new ≡ stand_of known.old) }
 {
@@ -85,7 +130,13 @@ pub(crate) fn check_size(alloc: Global, env: &Env, known: &mut Known, m: Mark, a
 
 /// `sizeof` before a type name (C99 6.5.3.4).
 #[cycle(check)]
-pub(crate) fn check_size_of_type(alloc: Global, env: &Env, known: &mut Known, m: Mark, t: &TypeName) -> Result<Checked, TypeFault>
+pub(crate) fn check_size_of_type(
+    alloc: Global,
+    env: &Env,
+    known: &mut Known,
+    m: Mark,
+    t: &TypeName,
+) -> Result<Checked, TypeFault>
     ensures walks { Walks checked result (known_of known.new) (check (env_of env.now (stand_of known.old)) (ExprTree.SizeType (mark m) (type_tree t.now)) (known_of known.old)) }
     ensures stays { OnOk result (stand_of known.new ≡ stand_of known.old) }
 {
@@ -97,7 +148,14 @@ pub(crate) fn check_size_of_type(alloc: Global, env: &Env, known: &mut Known, m:
 
 /// A cast (C99 6.5.4).
 #[cycle(check)]
-pub(crate) fn check_cast(alloc: Global, env: &Env, known: &mut Known, m: Mark, t: &TypeName, a: &Expr) -> Result<Checked, TypeFault>
+pub(crate) fn check_cast(
+    alloc: Global,
+    env: &Env,
+    known: &mut Known,
+    m: Mark,
+    t: &TypeName,
+    a: &Expr,
+) -> Result<Checked, TypeFault>
     ensures walks { Walks checked result (known_of known.new) (check (env_of env.now (stand_of known.old)) (ExprTree.Cast (mark m) (type_tree t.now) (expr_tree a.now)) (known_of known.old)) }
     ensures stays { OnOk result (stand_of known.new ≡ stand_of known.old) }
 {
@@ -108,7 +166,15 @@ pub(crate) fn check_cast(alloc: Global, env: &Env, known: &mut Known, m: Mark, t
 
 /// `c ? a : b` (C99 6.5.15).
 #[cycle(check)]
-pub(crate) fn check_cond(alloc: Global, env: &Env, known: &mut Known, m: Mark, c: &Expr, a: &Expr, b: &Expr) -> Result<Checked, TypeFault>
+pub(crate) fn check_cond(
+    alloc: Global,
+    env: &Env,
+    known: &mut Known,
+    m: Mark,
+    c: &Expr,
+    a: &Expr,
+    b: &Expr,
+) -> Result<Checked, TypeFault>
     ensures walks { Walks checked result (known_of known.new) (check (env_of env.now (stand_of known.old)) (ExprTree.Cond (mark m) (expr_tree c.now) (expr_tree a.now) (expr_tree b.now)) (known_of known.old)) }
     ensures stays { OnOk result (stand_of known.new ≡ stand_of known.old) }
 {
@@ -120,7 +186,15 @@ pub(crate) fn check_cond(alloc: Global, env: &Env, known: &mut Known, m: Mark, c
 
 /// A binary operator (C99 6.5.5 to 6.5.14).
 #[cycle(check)]
-pub(crate) fn check_binary(alloc: Global, env: &Env, known: &mut Known, m: Mark, sign: Sign, a: &Expr, b: &Expr) -> Result<Checked, TypeFault>
+pub(crate) fn check_binary(
+    alloc: Global,
+    env: &Env,
+    known: &mut Known,
+    m: Mark,
+    sign: Sign,
+    a: &Expr,
+    b: &Expr,
+) -> Result<Checked, TypeFault>
     ensures walks { Walks checked result (known_of known.new) (check (env_of env.now (stand_of known.old)) (ExprTree.Join (mark m) (Infix.Binary sign) (expr_tree a.now) (expr_tree b.now)) (known_of known.old)) }
     ensures stays { OnOk result (stand_of known.new ≡ stand_of known.old) }
 {
@@ -131,7 +205,15 @@ pub(crate) fn check_binary(alloc: Global, env: &Env, known: &mut Known, m: Mark,
 
 /// An assignment operator (C99 6.5.16).
 #[cycle(check)]
-pub(crate) fn check_assign(alloc: Global, env: &Env, known: &mut Known, m: Mark, sign: Sign, a: &Expr, b: &Expr) -> Result<Checked, TypeFault>
+pub(crate) fn check_assign(
+    alloc: Global,
+    env: &Env,
+    known: &mut Known,
+    m: Mark,
+    sign: Sign,
+    a: &Expr,
+    b: &Expr,
+) -> Result<Checked, TypeFault>
     ensures walks { Walks checked result (known_of known.new) (check (env_of env.now (stand_of known.old)) (ExprTree.Join (mark m) (Infix.Assign sign) (expr_tree a.now) (expr_tree b.now)) (known_of known.old)) }
     ensures stays { OnOk result (stand_of known.new ≡ stand_of known.old) }
 {
@@ -142,7 +224,14 @@ pub(crate) fn check_assign(alloc: Global, env: &Env, known: &mut Known, m: Mark,
 
 /// The comma operator (C99 6.5.17).
 #[cycle(check)]
-pub(crate) fn check_comma(alloc: Global, env: &Env, known: &mut Known, m: Mark, a: &Expr, b: &Expr) -> Result<Checked, TypeFault>
+pub(crate) fn check_comma(
+    alloc: Global,
+    env: &Env,
+    known: &mut Known,
+    m: Mark,
+    a: &Expr,
+    b: &Expr,
+) -> Result<Checked, TypeFault>
     ensures walks { Walks checked result (known_of known.new) (check (env_of env.now (stand_of known.old)) (ExprTree.Join (mark m) Infix.Comma (expr_tree a.now) (expr_tree b.now)) (known_of known.old)) }
     ensures stays { OnOk result (stand_of known.new ≡ stand_of known.old) }
 {

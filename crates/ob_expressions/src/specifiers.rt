@@ -12,14 +12,21 @@ use crate::lengths::check_lengths;
 use ob_base::{Text, let_go};
 use ob_context::{Env, Known, beside_part};
 use ob_conversions::types::copy_type;
-use ob_specifiers::{MemberList, close, declarator_type, int_words, mentioned, opened, struct_place};
+use ob_specifiers::{
+    MemberList, close, declarator_type, int_words, mentioned, opened, struct_place,
+};
 use ob_tree::{CType, MemberDecl, ObjDecl, Spec, SpecNode, TypeFault, TypeName};
 use ob_words::IntType;
 use std::alloc::Global;
 
 /// The type that a type name names (C99 6.7.6).
 #[cycle(check)]
-pub(crate) fn check_type(alloc: Global, env: &Env, known: &mut Known, t: &TypeName) -> Result<CType, TypeFault>
+pub(crate) fn check_type(
+    alloc: Global,
+    env: &Env,
+    known: &mut Known,
+    t: &TypeName,
+) -> Result<CType, TypeFault>
     ensures walks { Walks plain_type result (known_of known.new) (check_type (env_of env.now (stand_of known.old)) (type_tree t.now) (known_of known.old)) }
     ensures stays { OnOk result (stand_of known.new ≡ stand_of known.old) }
 {
@@ -39,7 +46,14 @@ pub fn check_spec(alloc: Global, env: &Env, known: &mut Known, s: &Spec) -> Resu
         SpecNode::SizeT => Ok(CType::Int(IntType::ULong)),
         SpecNode::Integer(words) => Ok(CType::Int(int_words(words))),
         SpecNode::Tag(name) => Ok(mentioned(alloc, known, name)?),
-        SpecNode::Struct { tag, members } => check_struct(alloc, env, known, s.first, tag.as_ref(), members),
+        SpecNode::Struct { tag, members } => check_struct(
+            alloc,
+            env,
+            known,
+            s.first,
+            tag.as_ref(),
+            members,
+        ),
     }
 }
 
@@ -66,7 +80,12 @@ fn check_struct(
 
 /// The members of a structure.
 #[cycle(check)]
-fn check_members(alloc: Global, env: &Env, known: &mut Known, lines: &Vec<MemberDecl>) -> Result<MemberList, TypeFault>
+fn check_members(
+    alloc: Global,
+    env: &Env,
+    known: &mut Known,
+    lines: &Vec<MemberDecl>,
+) -> Result<MemberList, TypeFault>
     ensures walks { Walks (λ l. l) result (known_of known.new) (check_members (env_of env.now (stand_of known.old)) [] (member_trees lines.now.items) (known_of known.old)) }
     ensures stays { OnOk result (stand_of known.new ≡ stand_of known.old) }
 {

@@ -77,7 +77,13 @@ fn array_item(alloc: Global, m: Mark, x: Checked) -> Result<TInit, TypeFault>
 }
 
 /// An expression for a structure. An automatic one may be copied from a place of its type.
-fn struct_item(alloc: Global, fixed: bool, number: u32, m: Mark, x: Checked) -> Result<TInit, TypeFault>
+fn struct_item(
+    alloc: Global,
+    fixed: bool,
+    number: u32,
+    m: Mark,
+    x: Checked,
+) -> Result<TInit, TypeFault>
     ensures { Gives typed_init result (struct_item fixed number (mark m) (checked x)) }
 {
     match x {

@@ -38,7 +38,12 @@ fn has_part(s: &Structs, t: &CType, i: usize) -> bool
 }
 
 /// The type of part `i`, where there is one.
-pub(crate) fn part_type(alloc: Global, s: &Structs, t: Option<&CType>, i: usize) -> Result<Option<CType>, NoMemory>
+pub(crate) fn part_type(
+    alloc: Global,
+    s: &Structs,
+    t: Option<&CType>,
+    i: usize,
+) -> Result<Option<CType>, NoMemory>
     ensures { IfOk result (λ r. option_map plain_type r ≡ part_type (plain_structs s.now) (option_map (λ u. plain_type u.now) t.entry) i) }
 {
     match t {

@@ -41,7 +41,11 @@ fn chars_for(alloc: Global, t: &CType, e: &Expr) -> Result<Option<Text>, NoMemor
 }
 
 /// The bytes of a string literal that initialises a part of type `t`.
-pub(crate) fn string_for(alloc: Global, t: Option<&CType>, e: &Expr) -> Result<Option<Text>, NoMemory>
+pub(crate) fn string_for(
+    alloc: Global,
+    t: Option<&CType>,
+    e: &Expr,
+) -> Result<Option<Text>, NoMemory>
     ensures { IfOk result (λ bytes. bytes ≡ string_for (option_map (λ u. plain_type u.now) t.entry) (expr_tree e.now)) }
 {
     match t {

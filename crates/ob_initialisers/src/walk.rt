@@ -54,7 +54,15 @@ fn check_item(
         Some(bytes) => string_rule(t, mark_of(e), bytes),
         None => {
             let x = check(alloc, env, known, e)?;
-            part_rule(alloc, &known.structs, &known.statics, fixed, t, mark_of(e), x)
+            part_rule(
+                alloc,
+                &known.structs,
+                &known.statics,
+                fixed,
+                t,
+                mark_of(e),
+                x,
+            )
         }
     }
 }
