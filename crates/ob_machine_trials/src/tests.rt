@@ -1,6 +1,8 @@
 //! That the calls find memory, how devices that fail end a run, that output goes out before a read, and which calls of
 //! its devices a run makes.
 
+ghost use Rattle.ob_model.specs.Settings.{IsFit};
+
 use ob_base::{MemSink, MemSource, Sink, Source};
 use ob_code::{FunctionRow, Image, Instr, Rows, verify};
 use ob_machine::Machine;
@@ -70,9 +72,9 @@ fn image(alloc: Global, code: &[Instr]) -> Result<Image, AllocError> {
     functions.push(FunctionRow {
         entry: 0,
         params: 0,
-        words: 5,
+        words: 7,
         vars: 0,
-        allowance: 48,
+        allowance: 64,
         locals: Rows::from_vec(Vec::new(alloc)),
     })?;
     Ok(Image {
@@ -86,12 +88,19 @@ fn image(alloc: Global, code: &[Instr]) -> Result<Image, AllocError> {
     })
 }
 
-// A fresh machine with this code.
-fn loaded(rt: &impl Abort, alloc: Global, code: &[Instr]) -> Result<Machine, Fail> {
+/// A fresh machine with this code.
+pub fn loaded(
+    rt: &impl Abort,
+    alloc: Global,
+    code: &[Instr],
+    settings: &RunSettings,
+) -> Result<Machine, Fail>
+    requires { IsFit settings.now }
+{
     let v = verify(image(alloc, code)?)
         .ok()
         .expect(rt, "the image keeps the rules");
-    Ok(Machine::load(alloc, v, &SETTINGS)?)
+    Ok(Machine::load(alloc, v, settings)?)
 }
 
 const SETTINGS: RunSettings = RunSettings {
@@ -124,7 +133,7 @@ fn ending(
     input: &mut MemSource,
     out: &mut MemSink,
 ) -> Result<Ending, Fail> {
-    let mut machine = loaded(rt, alloc, code)?;
+    let mut machine = loaded(rt, alloc, code, &SETTINGS)?;
     Ok(run_fresh(rt, alloc, &mut machine, input, out))
 }
 
@@ -144,7 +153,7 @@ fn ending_again(
     input: &mut MemSource,
     out: &mut MemSink,
 ) -> Result<Ending, Fail> {
-    let mut machine = loaded(rt, alloc, &ECHO)?;
+    let mut machine = loaded(rt, alloc, &ECHO, &SETTINGS)?;
     echoes(rt, alloc, &mut machine)?;
     machine.reset();
     Ok(run_fresh(rt, alloc, &mut machine, input, out))
