@@ -3,7 +3,7 @@
 
 ghost use Rattle.ob_model.specs.Settings.{IsFit};
 
-use ob_base::{MemSink, MemSource, Sink, Source};
+use ob_base::{MemSink, MemSource, Sink, Source, let_go};
 use ob_code::{FunctionRow, Image, Instr, Rows, verify};
 use ob_machine::Machine;
 use ob_maker::Zero;
@@ -134,7 +134,9 @@ fn ending(
     out: &mut MemSink,
 ) -> Result<Ending, Fail> {
     let mut machine = loaded(rt, alloc, code, &SETTINGS)?;
-    Ok(run_fresh(rt, alloc, &mut machine, input, out))
+    let came = run_fresh(rt, alloc, &mut machine, input, out);
+    let_go(machine);
+    Ok(came)
 }
 
 // The echo of `x`, one byte a call, takes 12 instructions.
@@ -146,7 +148,20 @@ fn echoes(rt: &impl Abort, alloc: Global, machine: &mut Machine) -> Result<(), F
     Ok(())
 }
 
-// How the echo ends on these devices, on a machine that ran before and was reset.
+// How the echo ends on these devices, on a machine with its code that runs before and is reset.
+fn runs_again(
+    rt: &impl Abort,
+    alloc: Global,
+    machine: &mut Machine,
+    input: &mut MemSource,
+    out: &mut MemSink,
+) -> Result<Ending, Fail> {
+    echoes(rt, alloc, machine)?;
+    machine.reset();
+    Ok(run_fresh(rt, alloc, machine, input, out))
+}
+
+// The same on a machine that is made for it.
 fn ending_again(
     rt: &impl Abort,
     alloc: Global,
@@ -154,9 +169,9 @@ fn ending_again(
     out: &mut MemSink,
 ) -> Result<Ending, Fail> {
     let mut machine = loaded(rt, alloc, &ECHO, &SETTINGS)?;
-    echoes(rt, alloc, &mut machine)?;
-    machine.reset();
-    Ok(run_fresh(rt, alloc, &mut machine, input, out))
+    let came = runs_again(rt, alloc, &mut machine, input, out);
+    let_go(machine);
+    came
 }
 
 // The echo of `ab`, on devices that move one byte a call, whose read and write of these numbers fail.

@@ -72,13 +72,22 @@ fn add_events(told: &mut String, watcher: &FirstEvents) -> Result<(), AllocError
     Ok(())
 }
 
+// What the variable of a row of names holds, where it shows and isn't 0.
+fn number_in(machine: &Machine, row: u32) -> Option<i128> {
+    if row as usize >= machine.image().names.as_slice().len() {
+        return None;
+    }
+    match machine.shown(row) {
+        Some(Shown::Num(number)) if number != 0 => Some(number),
+        _ => None,
+    }
+}
+
 // The words of the first call that aren't 0, each with its number.
 fn add_words(told: &mut String, machine: &Machine) -> Result<(), AllocError> {
-    let count = machine.image().names.as_slice().len();
-    for row in 0..count {
-        match machine.shown(row as u32) {
-            Some(Shown::Num(number)) if number != 0 => write!(told, " {}={number}", row + 2)?,
-            _ => {}
+    for row in 0..10u32 {
+        if let Some(number) = number_in(machine, row) {
+            write!(told, " {}={number}", row + 2)?;
         }
     }
     Ok(())
