@@ -1,4 +1,4 @@
-ghost use Rattle.std.specs.Prelude.{◌≡◌, ◌+◌, ◌*◌, ◌<◌, ◌≤◌, ◌^◌, [], length, map, vec_capacity, IfNone};
+ghost use Rattle.std.specs.Prelude.{◌≡◌, ◌+◌, ◌*◌, ◌<◌, ◌^◌, [], length, map, vec_capacity, IfNone};
 ghost use Rattle.ob_code.specs.Machine.{after, runs};
 ghost use Rattle.ob_code.specs.Rules.{IsVerified};
 ghost use Rattle.ob_code.specs.Start.{started};
