@@ -137,6 +137,20 @@ pub(crate) fn computed(operator: BinOp, t: IntType, x: u64, y: u64) -> Option<u6
 }
 
 #[inline(always)]
+fn compared_small(relation: Relation, a: i64, b: i64) -> bool
+    ensures { result ≡ compare relation a b }
+{
+    match relation {
+        Relation::Lt => a < b,
+        Relation::Gt => a > b,
+        Relation::Le => a <= b,
+        Relation::Ge => a >= b,
+        Relation::Eq => a == b,
+        Relation::Ne => a != b,
+    }
+}
+
+#[inline(always)]
 fn compared_in(relation: Relation, t: IntType, x: u64, y: u64) -> bool
     ensures { result ≡ compare relation (number t x) (number t y) }
 {
@@ -149,16 +163,52 @@ pub(crate) fn compared(relation: Relation, t: IntType, x: u64, y: u64) -> bool
     ensures { result ≡ compare relation (number t x) (number t y) }
 {
     match t {
-        IntType::Char => compared_in(relation, IntType::Char, x, y),
-        IntType::SChar => compared_in(relation, IntType::SChar, x, y),
-        IntType::UChar => compared_in(relation, IntType::UChar, x, y),
-        IntType::Short => compared_in(relation, IntType::Short, x, y),
-        IntType::UShort => compared_in(relation, IntType::UShort, x, y),
-        IntType::Int => compared_in(relation, IntType::Int, x, y),
-        IntType::UInt => compared_in(relation, IntType::UInt, x, y),
-        IntType::Long => compared_in(relation, IntType::Long, x, y),
+        IntType::Char => compared_small(
+            relation,
+            number(IntType::Char, x) as i64,
+            number(IntType::Char, y) as i64,
+        ),
+        IntType::SChar => compared_small(
+            relation,
+            number(IntType::SChar, x) as i64,
+            number(IntType::SChar, y) as i64,
+        ),
+        IntType::UChar => compared_small(
+            relation,
+            number(IntType::UChar, x) as i64,
+            number(IntType::UChar, y) as i64,
+        ),
+        IntType::Short => compared_small(
+            relation,
+            number(IntType::Short, x) as i64,
+            number(IntType::Short, y) as i64,
+        ),
+        IntType::UShort => compared_small(
+            relation,
+            number(IntType::UShort, x) as i64,
+            number(IntType::UShort, y) as i64,
+        ),
+        IntType::Int => compared_small(
+            relation,
+            number(IntType::Int, x) as i64,
+            number(IntType::Int, y) as i64,
+        ),
+        IntType::UInt => compared_small(
+            relation,
+            number(IntType::UInt, x) as i64,
+            number(IntType::UInt, y) as i64,
+        ),
+        IntType::Long => compared_small(
+            relation,
+            number(IntType::Long, x) as i64,
+            number(IntType::Long, y) as i64,
+        ),
+        IntType::LLong => compared_small(
+            relation,
+            number(IntType::LLong, x) as i64,
+            number(IntType::LLong, y) as i64,
+        ),
         IntType::ULong => compared_in(relation, IntType::ULong, x, y),
-        IntType::LLong => compared_in(relation, IntType::LLong, x, y),
         IntType::ULLong => compared_in(relation, IntType::ULLong, x, y),
     }
 }

@@ -152,26 +152,111 @@ fn overruns(rt: HostRuntime) -> Result<(), Fail> {
     Ok(())
 }
 
+const REPORT: &str = "watcher 0: 0 events\nwatcher 1: 0 events\n";
+
+// The words of an echo of two bytes by devices that give and take one at a time; which calls of the folder, of
+// the input, and of the two sinks fail; the status, and what the sinks took. The rows have each call that
+// the run makes of the first three, and the call behind the last one, which it doesn't make.
+const FAILURES: [(&str, [&[u64]; 4], u8, &str, &str); 17] = [
+    ("exec an.image", [&[], &[], &[], &[]], 0, "ab", ""),
+    (
+        "exec an.image",
+        [&[0], &[], &[], &[]],
+        129,
+        "",
+        "oblivious: FileFault\n",
+    ),
+    ("exec an.image", [&[1], &[], &[], &[]], 0, "ab", ""),
+    (
+        "exec an.image",
+        [&[], &[0], &[], &[]],
+        142,
+        "",
+        "oblivious: ReadFault\n",
+    ),
+    (
+        "exec an.image",
+        [&[], &[1], &[], &[]],
+        142,
+        "a",
+        "oblivious: ReadFault\n",
+    ),
+    (
+        "exec an.image",
+        [&[], &[2], &[], &[]],
+        142,
+        "ab",
+        "oblivious: ReadFault\n",
+    ),
+    ("exec an.image", [&[], &[3], &[], &[]], 0, "ab", ""),
+    ("exec an.image", [&[], &[], &[0], &[]], 143, "", ""),
+    ("exec an.image", [&[], &[], &[1], &[]], 143, "a", ""),
+    ("exec an.image", [&[], &[], &[2], &[]], 0, "ab", ""),
+    ("exec an.image", [&[], &[1], &[0], &[]], 143, "", ""),
+    (
+        "exec an.image --report",
+        [&[], &[], &[], &[0]],
+        143,
+        "ab",
+        "",
+    ),
+    (
+        "exec an.image --report",
+        [&[], &[], &[], &[20]],
+        143,
+        "ab",
+        "watcher 0: 0 events\n",
+    ),
+    (
+        "exec an.image --report",
+        [&[], &[], &[], &[40]],
+        0,
+        "ab",
+        REPORT,
+    ),
+    (
+        "exec an.image --report",
+        [&[], &[1], &[], &[4]],
+        143,
+        "a",
+        "obli",
+    ),
+    (
+        "exec an.image --steps 0",
+        [&[], &[], &[], &[0]],
+        143,
+        "",
+        "",
+    ),
+    (
+        "exec gone.image",
+        [&[], &[], &[], &[11]],
+        143,
+        "",
+        "oblivious: ",
+    ),
+];
+
 #[test]
-fn slow_and_failing_devices(rt: HostRuntime) -> Result<(), Fail> {
+fn devices_that_fail_at_each_call(rt: HostRuntime) -> Result<(), Fail> {
     let alloc = rt.alloc();
     let bytes = image(alloc, &ECHO)?;
-    let mut devices = sound();
-    devices.input = b"echoed";
-    devices.most = 1;
-    let slow = exec(alloc, "exec an.image", &bytes, &devices)?;
-    assert_eq!(rt; (slow.status, slow.out.as_str()), (0, "echoed"));
-
-    devices.reads = &[2];
-    let read = exec(alloc, "exec an.image", &bytes, &devices)?;
-    assert_eq!(rt; (read.status, read.out.as_str()), (142, "ec"));
-    assert_eq!(rt; read.err.as_str(), "oblivious: ReadFault\n");
-
-    devices.reads = &[];
-    devices.outs = &[3];
-    let written = exec(alloc, "exec an.image", &bytes, &devices)?;
-    assert_eq!(rt; (written.status, written.out.as_str()), (143, "ech"));
-    assert_eq!(rt; written.err.as_str(), "");
+    for (line, fails, status, out, err) in &FAILURES {
+        let devices = Devices {
+            input: b"ab",
+            loads: fails[0],
+            reads: fails[1],
+            outs: fails[2],
+            errs: fails[3],
+            most: 1,
+        };
+        let came = exec(alloc, line, &bytes, &devices)?;
+        assert_eq!(rt;
+            (came.status, came.out.as_str(), came.err.as_str()),
+            (*status, *out, *err),
+            "at {line}"
+        );
+    }
     Ok(())
 }
 
