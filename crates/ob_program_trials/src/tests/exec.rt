@@ -154,103 +154,54 @@ fn overruns(rt: HostRuntime) -> Result<(), Fail> {
 
 const REPORT: &str = "watcher 0: 0 events\nwatcher 1: 0 events\n";
 
-// The words of an echo of two bytes by devices that give and take one at a time; which calls of the folder, of
-// the input, and of the two sinks fail; the status, and what the sinks took. The rows have each call that
-// the run makes of the first three, and the call behind the last one, which it doesn't make.
-const FAILURES: [(&str, [&[u64]; 4], u8, &str, &str); 17] = [
-    ("exec an.image", [&[], &[], &[], &[]], 0, "ab", ""),
-    (
-        "exec an.image",
-        [&[0], &[], &[], &[]],
-        129,
-        "",
-        "oblivious: FileFault\n",
-    ),
-    ("exec an.image", [&[1], &[], &[], &[]], 0, "ab", ""),
-    (
-        "exec an.image",
-        [&[], &[0], &[], &[]],
-        142,
-        "",
-        "oblivious: ReadFault\n",
-    ),
-    (
-        "exec an.image",
-        [&[], &[1], &[], &[]],
-        142,
-        "a",
-        "oblivious: ReadFault\n",
-    ),
-    (
-        "exec an.image",
-        [&[], &[2], &[], &[]],
-        142,
-        "ab",
-        "oblivious: ReadFault\n",
-    ),
-    ("exec an.image", [&[], &[3], &[], &[]], 0, "ab", ""),
-    ("exec an.image", [&[], &[], &[0], &[]], 143, "", ""),
-    ("exec an.image", [&[], &[], &[1], &[]], 143, "a", ""),
-    ("exec an.image", [&[], &[], &[2], &[]], 0, "ab", ""),
-    ("exec an.image", [&[], &[1], &[0], &[]], 143, "", ""),
+// The words of an echo of two bytes by devices that give and take one at a time; which device fails (0 the
+// folder, 1 the input, 2 the output, 3 the error sink) and at which of its calls; the status, and what the
+// sinks took. The rows have each call that the run makes of the first three, and one behind the last, which
+// it doesn't make.
+const FAILURES: [(&str, u8, u64, u8, &str, &str); 14] = [
+    ("exec an.image", 0, 0, 129, "", "oblivious: FileFault\n"),
+    ("exec an.image", 0, 1, 0, "ab", ""),
+    ("exec an.image", 1, 0, 142, "", "oblivious: ReadFault\n"),
+    ("exec an.image", 1, 1, 142, "a", "oblivious: ReadFault\n"),
+    ("exec an.image", 1, 2, 142, "ab", "oblivious: ReadFault\n"),
+    ("exec an.image", 1, 3, 0, "ab", ""),
+    ("exec an.image", 2, 0, 143, "", ""),
+    ("exec an.image", 2, 1, 143, "a", ""),
+    ("exec an.image", 2, 2, 0, "ab", ""),
+    ("exec an.image --report", 3, 0, 143, "ab", ""),
     (
         "exec an.image --report",
-        [&[], &[], &[], &[0]],
-        143,
-        "ab",
-        "",
-    ),
-    (
-        "exec an.image --report",
-        [&[], &[], &[], &[20]],
+        3,
+        20,
         143,
         "ab",
         "watcher 0: 0 events\n",
     ),
-    (
-        "exec an.image --report",
-        [&[], &[], &[], &[40]],
-        0,
-        "ab",
-        REPORT,
-    ),
-    (
-        "exec an.image --report",
-        [&[], &[1], &[], &[4]],
-        143,
-        "a",
-        "obli",
-    ),
-    (
-        "exec an.image --steps 0",
-        [&[], &[], &[], &[0]],
-        143,
-        "",
-        "",
-    ),
-    (
-        "exec gone.image",
-        [&[], &[], &[], &[11]],
-        143,
-        "",
-        "oblivious: ",
-    ),
+    ("exec an.image --report", 3, 40, 0, "ab", REPORT),
+    ("exec an.image --steps 0", 3, 0, 143, "", ""),
+    ("exec gone.image", 3, 11, 143, "", "oblivious: "),
 ];
+
+/// Runs the echo where a device fails at a call.
+fn echoed(alloc: Global, line: &str, device: u8, call: u64) -> Result<Ran, NoMemory> {
+    let bytes = image(alloc, &ECHO)?;
+    let fails = [call];
+    let mut devices = sound();
+    devices.input = b"ab";
+    devices.most = 1;
+    match device {
+        0 => devices.loads = &fails,
+        1 => devices.reads = &fails,
+        2 => devices.outs = &fails,
+        _ => devices.errs = &fails,
+    }
+    exec(alloc, line, &bytes, &devices)
+}
 
 #[test]
 fn devices_that_fail_at_each_call(rt: HostRuntime) -> Result<(), Fail> {
-    let alloc = rt.alloc();
-    let bytes = image(alloc, &ECHO)?;
-    for (line, fails, status, out, err) in &FAILURES {
-        let devices = Devices {
-            input: b"ab",
-            loads: fails[0],
-            reads: fails[1],
-            outs: fails[2],
-            errs: fails[3],
-            most: 1,
-        };
-        let came = exec(alloc, line, &bytes, &devices)?;
+    for (line, device, call, status, out, err) in &FAILURES {
+        let came = echoed(rt.alloc(), line, *device, *call)?;
         assert_eq!(rt;
             (came.status, came.out.as_str(), came.err.as_str()),
             (*status, *out, *err),
