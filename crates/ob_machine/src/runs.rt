@@ -37,6 +37,7 @@ impl Execution {
     }
 
     /// Does at most `limit` instructions.
+    #[inline(never)]
     fn go<S: Source, K: Sink, M: Maker, W: Watcher>(
         &mut self,
         image: &Image,
