@@ -50,7 +50,7 @@ fn converted_to(t: IntType, w: u64) -> u64
 }
 
 /// The word of a word's number in type `t`.
-#[inline]
+#[inline(always)]
 pub(crate) fn converted(t: IntType, w: u64) -> u64
     ensures { result ≡ word (number t w) }
 {
@@ -117,7 +117,7 @@ fn computed_in(operator: BinOp, t: IntType, x: u64, y: u64) -> Option<u64>
 }
 
 /// The word of what an operator gives in type `t`; none where it divides by zero.
-#[inline]
+#[inline(always)]
 pub(crate) fn computed(operator: BinOp, t: IntType, x: u64, y: u64) -> Option<u64>
     ensures { result ≡ result_word (binary operator t (number t x) (right_number operator t y)) }
 {
@@ -158,7 +158,7 @@ fn compared_in(relation: Relation, t: IntType, x: u64, y: u64) -> bool
 }
 
 /// Whether two words stand in a relation as numbers of type `t`.
-#[inline]
+#[inline(always)]
 pub(crate) fn compared(relation: Relation, t: IntType, x: u64, y: u64) -> bool
     ensures { result ≡ compare relation (number t x) (number t y) }
 {
