@@ -1,0 +1,6 @@
+use Rattle.std.proofs.Common.{ap, ◌∙◌}
+use Rattle.ob_prelude.proofs.Views.{type_made}
+use Rattle.ob_prelude.proofs.types.type_of.Goals as goal
+
+pub returns : goal.returns
+returns c = type_made c.args.spec 0 c.new.result

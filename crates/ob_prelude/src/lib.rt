@@ -1,0 +1,19 @@
+//! The library in C.
+#![tactic(auto)]
+
+pub use complete::complete;
+pub use library::LibraryFunction;
+
+mod calls;
+mod complete;
+mod copies;
+mod decimal;
+mod functions;
+mod library;
+mod nodes;
+mod numbers;
+mod printing;
+mod program_calls;
+mod statements;
+mod strings;
+mod types;
