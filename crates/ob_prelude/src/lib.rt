@@ -1,11 +1,11 @@
 //! The library in C.
 #![tactic(auto)]
 
-pub use complete::complete;
+pub use completion::complete;
 pub use library::LibraryFunction;
 
 mod calls;
-mod complete;
+mod completion;
 mod copies;
 mod decimal;
 mod functions;
