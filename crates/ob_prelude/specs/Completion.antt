@@ -1,6 +1,6 @@
 -- The program with the library functions that it needs.
 use Rattle.std.specs.Prelude.{ℕ, zero, suc, List, [], ◌∷◌, ◌++◌, Bool, true, false, not, ◌&&◌, ◌||◌, if◌then◌else◌}
-use Rattle.std.specs.List.{list_any}
+use Rattle.std.specs.List.{list_any, flat_map}
 use Rattle.ob_tree.specs.Programs.{ItemTree, ProgramTree}
 use Rattle.ob_prelude.specs.declared.library.LibraryFunction.{LibraryFunction}
 use Rattle.ob_prelude.specs.Library.{library, name_of, tree_of}
@@ -23,10 +23,10 @@ called_alone p f = not (program_defines (name_of f) p) && program_calls (name_of
 abbrev pub wanted : ProgramTree → LibraryFunction → Bool
 wanted p f = wanted_within 11 p f
 
--- the trees of those functions that are appended, in the order of the list
-abbrev pub added : ProgramTree → List LibraryFunction → List ItemTree
-added p [] = []
-added p (f ∷ fs) = (if wanted p f then tree_of f ∷ [] else []) ++ added p fs
+-- the function's tree where it is appended, else nothing
+unfoldable pub share : ProgramTree → LibraryFunction → List ItemTree
+share p f = if wanted p f then tree_of f ∷ [] else []
 
+-- the trees of the functions that are appended, in their order
 abbrev pub complete : ProgramTree → ProgramTree
-complete p = p ++ added p library
+complete p = p ++ flat_map (share p) library

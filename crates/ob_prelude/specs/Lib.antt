@@ -4,6 +4,8 @@ pub mod Copies
 pub mod Printing
 pub mod Numbers
 pub mod Library
-pub mod Lists
+pub mod Texts
+pub mod Nowhere
 pub mod Calls
 pub mod Completion
+pub mod Lists

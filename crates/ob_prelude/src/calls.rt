@@ -29,7 +29,11 @@ pub fn calls(name: &[u8], e: &Expr) -> bool
         ExprNode::Cond(test, then, other) => {
             calls(name, test) || calls(name, then) || calls(name, other)
         }
-        _ => false,
+        ExprNode::Name(_)
+        | ExprNode::Number { value: _, ty: _ }
+        | ExprNode::Null
+        | ExprNode::Eof
+        | ExprNode::Str(_) => false,
     }
 }
 

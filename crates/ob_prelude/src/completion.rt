@@ -1,7 +1,8 @@
-ghost use Rattle.std.specs.Prelude.{◌≡◌, ◌++◌, ◌∷◌, [], map, IfOk, OnOk};
+ghost use Rattle.std.specs.Prelude.{◌≡◌, ◌++◌, map, IfOk, OnOk};
+ghost use Rattle.std.specs.List.{flat_map};
 ghost use Rattle.ob_tree.specs.ProgramView.{item_tree, program_tree};
 ghost use Rattle.ob_prelude.specs.Library.{library};
-ghost use Rattle.ob_prelude.specs.Completion.{called_alone, wanted, added, complete as complete_of};
+ghost use Rattle.ob_prelude.specs.Completion.{called_alone, wanted, share, complete as complete_of};
 
 use crate::library::{LIBRARY, LibraryFunction};
 use crate::program_calls::{program_calls, program_defines};
@@ -28,13 +29,14 @@ fn is_wanted(p: &Program, function: LibraryFunction) -> bool
     }
 }
 
+#[tactic(auto, unfolding(crate::specs::Completion::share), using(crate::proofs::Wanted::items_joined))]
 fn put_wanted(
     alloc: Global,
     items: &mut Vec<Item>,
     p: &Program,
     function: LibraryFunction,
 ) -> Result<(), NoMemory>
-    ensures { OnOk result (map item_tree items.new.items ≡ map item_tree items.old.items ++ added (program_tree p.now) (function ∷ [])) }
+    ensures { OnOk result (map item_tree items.new.items ≡ map item_tree items.old.items ++ share (program_tree p.now) function) }
 {
     if !is_wanted(p, function) {
         return Ok(());
@@ -44,7 +46,7 @@ fn put_wanted(
 }
 
 fn additions(alloc: Global, p: &Program) -> Result<Vec<Item>, NoMemory>
-    ensures { IfOk result (λ items. map item_tree items.items ≡ added (program_tree p.now) library) }
+    ensures { IfOk result (λ items. map item_tree items.items ≡ flat_map (share (program_tree p.now)) library) }
 {
     let mut items = Vec::new(alloc);
     for function in &LIBRARY {
@@ -58,6 +60,7 @@ fn additions(alloc: Global, p: &Program) -> Result<Vec<Item>, NoMemory>
 /// the greatest of `u32`, and every line 0.
 ///
 /// Takes memory for the trees. `NoMemory` says that there was too little, and the program is let go.
+#[tactic(auto, using(crate::proofs::Wanted::items_joined))]
 pub fn complete(alloc: Global, p: Program) -> Result<Program, NoMemory>
     ensures { IfOk result (λ q. program_tree q ≡ complete_of (program_tree p)) }
 {

@@ -2,6 +2,7 @@
 #![tactic(auto)]
 
 pub use completion::complete;
+pub use laws::law_library;
 pub use library::LibraryFunction;
 
 mod calls;
@@ -9,6 +10,7 @@ mod completion;
 mod copies;
 mod decimal;
 mod functions;
+mod laws;
 mod library;
 mod nodes;
 mod numbers;
