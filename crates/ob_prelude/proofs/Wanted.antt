@@ -45,4 +45,3 @@ other_wanted p f.PrintS n = called-or-none p f.PrintS
 pub items_joined : (xs ys : List Item) → map item_tree (xs ++ ys) ≡ map item_tree xs ++ map item_tree ys
 items_joined [] ys = refl
 items_joined (x ∷ xs) ys = ap (λ zs. item_tree x ∷ zs) (items_joined xs ys)
-

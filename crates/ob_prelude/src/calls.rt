@@ -16,7 +16,11 @@ pub fn calls(name: &[u8], e: &Expr) -> bool
         | ExprNode::Arrow(e, _)
         | ExprNode::Unary(_, e)
         | ExprNode::SizeExpr(e)
-        | ExprNode::Step { post: _, down: _, e } => calls(name, e),
+        | ExprNode::Step {
+            post: _,
+            down: _,
+            e,
+        } => calls(name, e),
         ExprNode::Index(left, right)
         | ExprNode::Binary(_, left, right)
         | ExprNode::Assign(_, left, right)

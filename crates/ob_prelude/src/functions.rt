@@ -11,9 +11,7 @@ use crate::nodes::number;
 use crate::statements::block_of;
 use crate::types::{Base, NOWHERE, spec, text_of};
 use ob_base::{NoMemory, Text, listed, push_on};
-use ob_tree::{
-    BlockItem, Dim, Expr, Item, ItemNode, Local, ObjDecl, Param, Params, Spec,
-};
+use ob_tree::{BlockItem, Dim, Expr, Item, ItemNode, Local, ObjDecl, Param, Params, Spec};
 use std::alloc::Global;
 
 #[tactic(auto, using(crate::proofs::Views::declarator_made))]

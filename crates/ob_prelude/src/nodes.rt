@@ -153,12 +153,7 @@ pub fn element(alloc: Global, array: &[u8], place: &[u8]) -> Result<Box<Expr>, N
 }
 
 /// `left sign right`
-pub fn of_names(
-    alloc: Global,
-    left: &[u8],
-    sign: Sign,
-    right: &[u8],
-) -> Result<Box<Expr>, NoMemory>
+pub fn of_names(alloc: Global, left: &[u8], sign: Sign, right: &[u8]) -> Result<Box<Expr>, NoMemory>
     ensures { IfOk result (λ e. expr_tree e.value ≡ of_names_of left.now sign right.now) }
 {
     let left = name(alloc, left)?;

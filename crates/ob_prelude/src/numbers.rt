@@ -8,9 +8,7 @@ ghost use Rattle.ob_prelude.specs.Nodes.{element_with as element_with_of, set_nu
 ghost use Rattle.ob_prelude.specs.Numbers.{between as between_of, is_space as is_space_tree, spaces_skipped as spaces_skipped_tree, minus_taken as minus_taken_tree, plus_taken as plus_taken_tree, sign_taken as sign_taken_tree, with_digit as with_digit_tree, digit_taken as digit_taken_tree, digits_taken as digits_taken_tree, negated as negated_tree, signed_number as signed_number_tree, atoi_items, atoi_tree};
 
 use crate::functions::{declare, function, put_param};
-use crate::nodes::{
-    binary, conditional, element_with, name, number, paren, with_number,
-};
+use crate::nodes::{binary, conditional, element_with, name, number, paren, with_number};
 use crate::statements::{
     block, if_else_stmt, if_stmt, put, put_number, put_return, put_set, put_step, step, while_stmt,
 };

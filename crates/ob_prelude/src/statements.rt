@@ -46,11 +46,7 @@ pub fn block(alloc: Global, items: Vec<BlockItem>) -> Result<Box<Stmt>, NoMemory
     boxed(alloc, block_of(items))
 }
 
-pub fn while_stmt(
-    alloc: Global,
-    test: Box<Expr>,
-    body: Box<Stmt>,
-) -> Result<Box<Stmt>, NoMemory>
+pub fn while_stmt(alloc: Global, test: Box<Expr>, body: Box<Stmt>) -> Result<Box<Stmt>, NoMemory>
     ensures { IfOk result (λ s. stmt_tree s.value ≡ while_stmt_of (expr_tree test.value) (stmt_tree body.value)) }
 {
     made(alloc, StmtNode::While(Box::into_inner(test), body))
@@ -109,11 +105,7 @@ pub fn return_stmt(alloc: Global, value: Box<Expr>) -> Result<Box<Stmt>, NoMemor
 }
 
 /// `left = right;`
-pub fn assign_stmt(
-    alloc: Global,
-    left: Box<Expr>,
-    right: Box<Expr>,
-) -> Result<Box<Stmt>, NoMemory>
+pub fn assign_stmt(alloc: Global, left: Box<Expr>, right: Box<Expr>) -> Result<Box<Stmt>, NoMemory>
     ensures { IfOk result (λ s. stmt_tree s.value ≡ expr_stmt_of (assign_of (expr_tree left.value) (expr_tree right.value))) }
 {
     let expr = assign(alloc, left, right)?;
@@ -145,11 +137,7 @@ pub fn put(items: &mut Vec<BlockItem>, stmt: Box<Stmt>) -> Result<(), NoMemory>
     push_on(items, BlockItem::Stmt(Box::into_inner(stmt)))
 }
 
-pub fn put_expr(
-    alloc: Global,
-    items: &mut Vec<BlockItem>,
-    expr: Box<Expr>,
-) -> Result<(), NoMemory>
+pub fn put_expr(alloc: Global, items: &mut Vec<BlockItem>, expr: Box<Expr>) -> Result<(), NoMemory>
     ensures { OnOk result (block_trees items.new.items ≡ add_statement (block_trees items.old.items) (expr_stmt_of (expr_tree expr.value))) }
 {
     let stmt = expr_stmt(alloc, expr)?;

@@ -7,9 +7,7 @@ ghost use Rattle.ob_prelude.specs.Strings.{strlen_items, strlen_tree, copying as
 
 use crate::functions::{declare, function, put_param};
 use crate::nodes::{assign, binary, cast, element, index, name, of_names, paren};
-use crate::statements::{
-    put, put_number, put_return, put_return_name, put_scan, step, while_stmt,
-};
+use crate::statements::{put, put_number, put_return, put_return_name, put_scan, step, while_stmt};
 use crate::types::Base;
 use ob_base::NoMemory;
 use ob_tree::{BlockItem, Expr, Item, Sign, Stmt};
@@ -47,11 +45,7 @@ fn copying(alloc: Global, target: Box<Expr>) -> Result<Box<Stmt>, NoMemory>
     while_stmt(alloc, test, body)
 }
 
-fn put_copying(
-    alloc: Global,
-    items: &mut Vec<BlockItem>,
-    target: Box<Expr>,
-) -> Result<(), NoMemory>
+fn put_copying(alloc: Global, items: &mut Vec<BlockItem>, target: Box<Expr>) -> Result<(), NoMemory>
     ensures { OnOk result (block_trees items.new.items ≡ add_statement (block_trees items.old.items) (copying_of (expr_tree target.value))) }
 {
     let stmt = copying(alloc, target)?;

@@ -37,11 +37,23 @@ const ROWS: [(&str, &[usize]); 22] = [
     ("int main(void){__print_u(1,2);}", &[8]),
     ("int main(void){__print_d(1);}", &[8, 9]),
     ("int main(void){__print_s(\"\");}", &[10]),
-    ("int strlen(char *s){return 1;}int main(void){return strlen(\"a\");}", &[]),
-    ("size_t strlen(char *s);int main(void){return strlen(\"a\");}", &[0]),
+    (
+        "int strlen(char *s){return 1;}int main(void){return strlen(\"a\");}",
+        &[],
+    ),
+    (
+        "size_t strlen(char *s);int main(void){return strlen(\"a\");}",
+        &[0],
+    ),
     ("size_t strlen(char *s);int main(void){return 0;}", &[]),
-    ("int __print_u(int v,int b){return 0;}int main(void){__print_d(1);}", &[9]),
-    ("int __print_d(long v){return 0;}int main(void){__print_d(1);}", &[]),
+    (
+        "int __print_u(int v,int b){return 0;}int main(void){__print_d(1);}",
+        &[9],
+    ),
+    (
+        "int __print_d(long v){return 0;}int main(void){__print_d(1);}",
+        &[],
+    ),
     ("int main(void){int strlen;return strlen;}", &[]),
     ("int a[]={1,{atoi(\"2\")}};", &[7]),
     ("int f(int a[strlen(\"b\")]);", &[0]),
