@@ -1,7 +1,6 @@
 ghost use Rattle.std.specs.Prelude.{◌≡◌, ◌++◌, map, IfOk, OnOk};
 ghost use Rattle.std.specs.List.{flat_map};
 ghost use Rattle.ob_tree.specs.ProgramView.{item_tree, program_tree};
-ghost use Rattle.ob_prelude.specs.Library.{library};
 ghost use Rattle.ob_prelude.specs.Completion.{called_alone, wanted, share, complete as complete_of};
 
 use crate::library::{LIBRARY, LibraryFunction};
@@ -45,11 +44,15 @@ fn put_wanted(
     push_on(items, item)
 }
 
-fn additions(alloc: Global, p: &Program) -> Result<Vec<Item>, NoMemory>
-    ensures { IfOk result (λ items. map item_tree items.items ≡ flat_map (share (program_tree p.now)) library) }
+fn additions(
+    alloc: Global,
+    p: &Program,
+    functions: &[LibraryFunction],
+) -> Result<Vec<Item>, NoMemory>
+    ensures { IfOk result (λ items. map item_tree items.items ≡ flat_map (share (program_tree p.now)) functions.now) }
 {
     let mut items = Vec::new(alloc);
-    for function in &LIBRARY {
+    for function in functions {
         put_wanted(alloc, &mut items, p, *function)?;
     }
     Ok(items)
@@ -64,7 +67,7 @@ fn additions(alloc: Global, p: &Program) -> Result<Vec<Item>, NoMemory>
 pub fn complete(alloc: Global, p: Program) -> Result<Program, NoMemory>
     ensures { IfOk result (λ q. program_tree q ≡ complete_of (program_tree p)) }
 {
-    let mut added = additions(alloc, &p)?;
+    let mut added = additions(alloc, &p, &LIBRARY)?;
     let Program { mut items } = p;
     items.append(&mut added)?;
     Ok(Program { items })

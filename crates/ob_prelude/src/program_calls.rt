@@ -94,13 +94,24 @@ fn param_calls(name: &[u8], param: &Param) -> bool
     spec_calls(name, &param.spec) || dims_call(name, &param.dims)
 }
 
+fn param_list_calls(name: &[u8], params: &[Param]) -> bool
+    ensures { result ≡ list_any (λ p. param_calls_of name.now (param_tree p)) params.now }
+{
+    for param in params {
+        if param_calls(name, param) {
+            return true;
+        }
+    }
+    false
+}
+
 #[tactic(auto, using(crate::proofs::CallRows::listed))]
 fn params_call(name: &[u8], params: &Params) -> bool
     ensures { result ≡ params_call_of name.now (params_tree params.now) }
 {
     match params {
         Params::Empty | Params::Void => false,
-        Params::List(params) => params.iter().any(|param| param_calls(name, param)),
+        Params::List(params) => param_list_calls(name, params),
     }
 }
 
@@ -118,6 +129,17 @@ fn file_calls(name: &[u8], declarator: &FileDecl) -> bool
     }
 }
 
+fn files_call(name: &[u8], declarators: &[FileDecl]) -> bool
+    ensures { result ≡ list_any (λ d. file_calls_of name.now (file_tree d)) declarators.now }
+{
+    for declarator in declarators {
+        if file_calls(name, declarator) {
+            return true;
+        }
+    }
+    false
+}
+
 #[tactic(auto, using(crate::proofs::CallRows::listed))]
 fn item_calls(name: &[u8], item: &Item) -> bool
     ensures { result ≡ item_calls_of name.now (item_tree item.now) }
@@ -133,8 +155,19 @@ fn item_calls(name: &[u8], item: &Item) -> bool
             params,
             body,
         } => params_call(name, params) || stmt_calls(name, body),
-        ItemNode::Decls(declarators) => declarators.iter().any(|d| file_calls(name, d)),
+        ItemNode::Decls(declarators) => files_call(name, declarators),
     }
+}
+
+fn items_call(name: &[u8], items: &[Item]) -> bool
+    ensures { result ≡ list_any (λ i. item_calls_of name.now (item_tree i)) items.now }
+{
+    for item in items {
+        if item_calls(name, item) {
+            return true;
+        }
+    }
+    false
 }
 
 /// Whether the program calls a function of this name.
@@ -142,7 +175,7 @@ fn item_calls(name: &[u8], item: &Item) -> bool
 pub fn program_calls(name: &[u8], p: &Program) -> bool
     ensures { result ≡ program_calls_of name.now (program_tree p.now) }
 {
-    p.items.iter().any(|item| item_calls(name, item))
+    items_call(name, &p.items)
 }
 
 fn item_defines(name: &[u8], item: &Item) -> bool
@@ -160,10 +193,21 @@ fn item_defines(name: &[u8], item: &Item) -> bool
     }
 }
 
+fn items_define(name: &[u8], items: &[Item]) -> bool
+    ensures { result ≡ list_any (λ i. item_defines_of name.now (item_tree i)) items.now }
+{
+    for item in items {
+        if item_defines(name, item) {
+            return true;
+        }
+    }
+    false
+}
+
 /// Whether the program defines a function of this name.
 #[tactic(auto, using(crate::proofs::CallRows::listed))]
 pub fn program_defines(name: &[u8], p: &Program) -> bool
     ensures { result ≡ program_defines_of name.now (program_tree p.now) }
 {
-    p.items.iter().any(|item| item_defines(name, item))
+    items_define(name, &p.items)
 }

@@ -1,4 +1,5 @@
 use Rattle.std.proofs.Common.{rules, ◌≡◌, Bool, arith, ap, sym, subst, ◌∙◌}
+use Rattle.std.specs.Prelude.{not}
 use Rattle.std.proofs.lemmas.Grind.{common_steps}
 use Rattle.ob_tree.specs.ProgramView.{program_tree}
 use Rattle.ob_prelude.specs.Completion.{wanted}
@@ -18,7 +19,7 @@ returns-else-program_calls c =
 pub returns-else-not-program_defines : goal.returns-else-not-program_defines
 returns-else-not-program_defines c =
     let e = ap (wanted (program_tree c.args.p.now)) c.in-PrintU.is ∙ print_u_wanted (program_tree c.args.p.now) in
-    subst (λ (b : Bool). Bool.false ≡ b) (sym e) (first_of (search rules, grind (arith, common_steps)))
+    subst (λ (b : Bool). not c.program_defines.result ≡ b) (sym e) (first_of (search rules, grind (arith, common_steps)))
 
 pub returns-in_default : goal.returns-in_default
-returns-in_default c = c.is_called.ensures ∙ sym (other_wanted (program_tree c.args.p.now) c.args.function c.in_default.not-PrintU)
+returns-in_default c = c.is_called-in_default.ensures ∙ sym (other_wanted (program_tree c.args.p.now) c.args.function c.in_default.not-PrintU)

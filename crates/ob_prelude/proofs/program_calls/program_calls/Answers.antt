@@ -7,5 +7,5 @@ use Rattle.ob_prelude.proofs.program_calls.program_calls.Goals as goal
 
 pub returns : goal.returns
 returns c =
-    let e : c.any.result ≡ list_any (λ i. item_calls c.args.name.now (item_tree i)) c.args.p.now.items.items = search rules in
+    let e : c.items_call.result ≡ list_any (λ i. item_calls c.args.name.now (item_tree i)) c.args.p.now.items.items = search rules in
     e ∙ sym (any_map (item_calls c.args.name.now) item_tree c.args.p.now.items.items)

@@ -7,5 +7,5 @@ use Rattle.ob_prelude.proofs.program_calls.program_defines.Goals as goal
 
 pub returns : goal.returns
 returns c =
-    let e : c.any.result ≡ list_any (λ i. item_defines c.args.name.now (item_tree i)) c.args.p.now.items.items = search rules in
+    let e : c.items_define.result ≡ list_any (λ i. item_defines c.args.name.now (item_tree i)) c.args.p.now.items.items = search rules in
     e ∙ sym (any_map (item_defines c.args.name.now) item_tree c.args.p.now.items.items)
