@@ -6,11 +6,7 @@ use Rattle.ob_tree.specs.Programs.{ProgramTree}
 use Rattle.ob_tree.specs.ProgramView.{item_tree}
 use Rattle.ob_prelude.specs.declared.library.LibraryFunction.{LibraryFunction}
 use Rattle.ob_prelude.specs.declared.library.LibraryFunction.TheVariants as f
-use Rattle.ob_prelude.specs.Strings.{strlen_tree, strcpy_tree, strcat_tree, strcmp_tree}
-use Rattle.ob_prelude.specs.Copies.{memset_tree, memcpy_tree}
-use Rattle.ob_prelude.specs.Printing.{puts_tree, print_u_tree, print_d_tree, print_s_tree}
-use Rattle.ob_prelude.specs.Numbers.{atoi_tree}
-use Rattle.ob_prelude.specs.Library.{name_of}
+use Rattle.ob_prelude.specs.Library.{name_of, tree_of}
 use Rattle.ob_prelude.specs.Calls.{program_calls, program_defines}
 use Rattle.ob_prelude.specs.Completion.{wanted_within, wanted, called_alone}
 
@@ -23,13 +19,13 @@ called-or-none p g = ap (λ b. not (program_defines (name_of g) p) && b) (or-fal
 
 pub print_u_wanted : (p : ProgramTree)
     → wanted p f.PrintU ≡ (not (program_defines (codes "__print_u") p) && (program_calls (codes "__print_u") p || called_alone p f.PrintD))
-unfolding wanted_within strlen_tree strcpy_tree strcat_tree strcmp_tree memset_tree memcpy_tree puts_tree print_u_tree print_d_tree print_s_tree atoi_tree
+unfolding wanted_within tree_of
 print_u_wanted p =
     ap (λ b. not (program_defines (codes "__print_u") p) && (program_calls (codes "__print_u") p || b))
     (or-false (not (program_defines (codes "__print_d") p) && (program_calls (codes "__print_d") p || false)) ∙ called-or-none p f.PrintD)
 
 pub other_wanted : (p : ProgramTree) (g : LibraryFunction) → g ≢ f.PrintU → wanted p g ≡ called_alone p g
-unfolding wanted_within strlen_tree strcpy_tree strcat_tree strcmp_tree memset_tree memcpy_tree puts_tree print_u_tree print_d_tree print_s_tree atoi_tree
+unfolding wanted_within tree_of
 other_wanted p f.Strlen n = called-or-none p f.Strlen
 other_wanted p f.Strcpy n = called-or-none p f.Strcpy
 other_wanted p f.Strcat n = called-or-none p f.Strcat

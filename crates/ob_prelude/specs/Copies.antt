@@ -1,11 +1,11 @@
--- The trees of the library's functions on bytes.
-use Rattle.std.specs.Prelude.{pos, [], ◌∷◌, codes}
+-- The bodies of the library's functions on bytes.
+use Rattle.std.specs.Prelude.{pos, codes}
 use Rattle.ob_tree.specs.declared.tokens.Sign.TheVariants as sign
 use Rattle.ob_tree.specs.Trees.{ExprTree}
-use Rattle.ob_tree.specs.Programs.{StmtTree, BlockTrees, ItemTree}
+use Rattle.ob_tree.specs.Programs.{StmtTree, BlockTrees}
 use Rattle.ob_tree.specs.Programs.BlockTrees.{NoItems, Declaration, Statement}
 use Rattle.ob_prelude.specs.declared.types.Base.TheVariants as base
-use Rattle.ob_prelude.specs.Nodes.{named, number, assign, element, of_names, set_to, moved, expr_stmt, for_stmt, return_stmt, set_name, variable, param, function}
+use Rattle.ob_prelude.specs.Nodes.{named, number, assign, element, of_names, set_to, moved, expr_stmt, for_stmt, return_stmt, set_name, variable}
 
 -- `d[i] = value;`
 abbrev pub filled : (value : ExprTree) → StmtTree
@@ -28,11 +28,6 @@ memset_items =
     (Statement (filling (named (codes "c")))
     (Statement (return_stmt (named (codes "p"))) NoItems))))
 
-unfoldable pub memset_tree : ItemTree
-memset_tree =
-    function base.Void 1 (codes "memset")
-    (param base.Void 1 (codes "p") ∷ (param base.Int 0 (codes "c") ∷ (param base.Size 0 (codes "n") ∷ []))) memset_items
-
 abbrev pub memcpy_items : BlockTrees
 memcpy_items =
     Declaration (variable base.Char 1 (codes "d"))
@@ -42,8 +37,3 @@ memcpy_items =
     (Statement (set_name (codes "s") (codes "q"))
     (Statement (filling (element (codes "s") (codes "i")))
     (Statement (return_stmt (named (codes "p"))) NoItems))))))
-
-unfoldable pub memcpy_tree : ItemTree
-memcpy_tree =
-    function base.Void 1 (codes "memcpy")
-    (param base.Void 1 (codes "p") ∷ (param base.Void 1 (codes "q") ∷ (param base.Size 0 (codes "n") ∷ []))) memcpy_items

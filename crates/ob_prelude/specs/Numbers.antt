@@ -1,11 +1,11 @@
--- The tree of the library's function that reads a number.
-use Rattle.std.specs.Prelude.{ℤ, pos, [], ◌∷◌, codes}
+-- The body of the library's function that reads a number.
+use Rattle.std.specs.Prelude.{ℤ, pos, codes}
 use Rattle.ob_tree.specs.declared.tokens.Sign.TheVariants as sign
 use Rattle.ob_tree.specs.Trees.{ExprTree}
-use Rattle.ob_tree.specs.Programs.{StmtTree, BlockTrees, ItemTree}
+use Rattle.ob_tree.specs.Programs.{StmtTree, BlockTrees}
 use Rattle.ob_tree.specs.Programs.BlockTrees.{NoItems, Declaration, Statement}
 use Rattle.ob_prelude.specs.declared.types.Base.TheVariants as base
-use Rattle.ob_prelude.specs.Nodes.{named, number, paren, binary, conditional, with_number, element_with, set_to, expr_stmt, block, while_stmt, if_stmt, if_else_stmt, return_stmt, step, set_number, variable, param, function}
+use Rattle.ob_prelude.specs.Nodes.{named, number, paren, binary, conditional, with_number, element_with, set_to, expr_stmt, block, while_stmt, if_stmt, if_else_stmt, return_stmt, step, set_number, variable}
 
 -- `s[i] >= low && s[i] <= high`
 abbrev pub between : (low high : ℤ) → ExprTree
@@ -60,6 +60,3 @@ atoi_items =
     (Statement (set_number (codes "n") (pos 0))
     (Statement digits_taken
     (Statement (return_stmt signed_number) NoItems)))))))))
-
-unfoldable pub atoi_tree : ItemTree
-atoi_tree = function base.Int 0 (codes "atoi") (param base.Char 1 (codes "s") ∷ []) atoi_items

@@ -1,11 +1,11 @@
--- The trees of the library's functions that print.
-use Rattle.std.specs.Prelude.{pos, List, ℕ, [], ◌∷◌, codes}
+-- The bodies of the library's functions that print.
+use Rattle.std.specs.Prelude.{pos, codes}
 use Rattle.ob_tree.specs.declared.tokens.Sign.TheVariants as sign
 use Rattle.ob_tree.specs.Trees.{ExprTree}
-use Rattle.ob_tree.specs.Programs.{StmtTree, BlockTrees, ItemTree}
+use Rattle.ob_tree.specs.Programs.{StmtTree, BlockTrees}
 use Rattle.ob_tree.specs.Programs.BlockTrees.{NoItems, Declaration, Statement}
 use Rattle.ob_prelude.specs.declared.types.Base.TheVariants as base
-use Rattle.ob_prelude.specs.Nodes.{named, number, string, index, binary, assign, call_one, call_two, cast, element, of_names, with_number, set_to, expr_stmt, block, while_stmt, do_stmt, if_stmt, return_stmt, step, set_number, set_name, variable, array, param, function}
+use Rattle.ob_prelude.specs.Nodes.{named, number, string, index, binary, assign, call_one, call_two, cast, element, of_names, with_number, set_to, expr_stmt, block, while_stmt, do_stmt, if_stmt, return_stmt, step, set_number, set_name, variable, array}
 
 -- `putchar(value);`
 abbrev pub put_char : ExprTree → StmtTree
@@ -26,9 +26,6 @@ puts_items =
     (Statement printing
     (Statement (put_char (number (pos 10)))
     (Statement (return_stmt (number (pos 0))) NoItems))))
-
-unfoldable pub puts_tree : ItemTree
-puts_tree = function base.Int 0 (codes "puts") (param base.Char 1 (codes "s") ∷ []) puts_items
 
 -- `"0123456789abcdef"[v % b]`
 abbrev pub digit : ExprTree
@@ -68,11 +65,6 @@ print_u_items =
     (Statement digits_printed
     (Statement (return_stmt (named (codes "n"))) NoItems)))))))
 
-unfoldable pub print_u_tree : ItemTree
-print_u_tree =
-    function base.Int 0 (codes "__print_u")
-    (param base.UnsignedLong 0 (codes "v") ∷ (param base.UnsignedLong 0 (codes "b") ∷ [])) print_u_items
-
 -- `__print_u(value, 10)`
 abbrev pub in_decimal : ExprTree → ExprTree
 in_decimal e = call_two (codes "__print_u") e (number (pos 10))
@@ -97,15 +89,9 @@ print_d_items =
     Statement if_negative
     (Statement (return_stmt (in_decimal (named (codes "v")))) NoItems)
 
-unfoldable pub print_d_tree : ItemTree
-print_d_tree = function base.Int 0 (codes "__print_d") (param base.Long 0 (codes "v") ∷ []) print_d_items
-
 abbrev pub print_s_items : BlockTrees
 print_s_items =
     Declaration (variable base.Int 0 (codes "n"))
     (Statement (set_number (codes "n") (pos 0))
     (Statement printing
     (Statement (return_stmt (named (codes "n"))) NoItems)))
-
-unfoldable pub print_s_tree : ItemTree
-print_s_tree = function base.Int 0 (codes "__print_s") (param base.Char 1 (codes "s") ∷ []) print_s_items

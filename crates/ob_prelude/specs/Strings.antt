@@ -1,11 +1,11 @@
--- The trees of the library's functions on strings.
-use Rattle.std.specs.Prelude.{ℕ, pos, List, [], ◌∷◌, codes}
+-- The bodies of the library's functions on strings.
+use Rattle.std.specs.Prelude.{ℕ, pos, List, codes}
 use Rattle.ob_tree.specs.declared.tokens.Sign.TheVariants as sign
 use Rattle.ob_tree.specs.Trees.{ExprTree}
-use Rattle.ob_tree.specs.Programs.{StmtTree, BlockTrees, ItemTree}
+use Rattle.ob_tree.specs.Programs.{StmtTree, BlockTrees}
 use Rattle.ob_tree.specs.Programs.BlockTrees.{NoItems, Declaration, Statement}
 use Rattle.ob_prelude.specs.declared.types.Base.TheVariants as base
-use Rattle.ob_prelude.specs.Nodes.{named, paren, index, binary, assign, cast, element, of_names, while_stmt, return_stmt, step, set_number, scan, variable, param, function}
+use Rattle.ob_prelude.specs.Nodes.{named, paren, index, binary, assign, cast, element, of_names, while_stmt, return_stmt, step, set_number, scan, variable}
 
 abbrev pub strlen_items : BlockTrees
 strlen_items =
@@ -13,9 +13,6 @@ strlen_items =
     (Statement (set_number (codes "n") (pos 0))
     (Statement (scan (codes "s") (codes "n"))
     (Statement (return_stmt (named (codes "n"))) NoItems)))
-
-unfoldable pub strlen_tree : ItemTree
-strlen_tree = function base.Size 0 (codes "strlen") (param base.Char 1 (codes "s") ∷ []) strlen_items
 
 -- `while ((target = s[n])) n = n + 1;`
 abbrev pub copying : (target : ExprTree) → StmtTree
@@ -27,9 +24,6 @@ strcpy_items =
     (Statement (set_number (codes "n") (pos 0))
     (Statement (copying (element (codes "d") (codes "n")))
     (Statement (return_stmt (named (codes "d"))) NoItems)))
-
-unfoldable pub strcpy_tree : ItemTree
-strcpy_tree = function base.Char 1 (codes "strcpy") (param base.Char 1 (codes "d") ∷ (param base.Char 1 (codes "s") ∷ [])) strcpy_items
 
 -- `d[i + n]`
 abbrev pub end_element : ExprTree
@@ -44,9 +38,6 @@ strcat_items =
     (Statement (set_number (codes "n") (pos 0))
     (Statement (copying end_element)
     (Statement (return_stmt (named (codes "d"))) NoItems))))))
-
-unfoldable pub strcat_tree : ItemTree
-strcat_tree = function base.Char 1 (codes "strcat") (param base.Char 1 (codes "d") ∷ (param base.Char 1 (codes "s") ∷ [])) strcat_items
 
 -- `a[n] == b[n]`
 abbrev pub same_element : ExprTree
@@ -74,6 +65,3 @@ strcmp_items =
     (Statement (set_number (codes "n") (pos 0))
     (Statement comparing
     (Statement (return_stmt difference) NoItems)))
-
-unfoldable pub strcmp_tree : ItemTree
-strcmp_tree = function base.Int 0 (codes "strcmp") (param base.Char 1 (codes "a") ∷ (param base.Char 1 (codes "b") ∷ [])) strcmp_items

@@ -1,16 +1,17 @@
-ghost use Rattle.std.specs.Prelude.{◌≡◌, IfOk, codes};
+ghost use Rattle.std.specs.Prelude.{◌≡◌, [], IfOk, OnOk, codes};
 ghost use Rattle.ob_tree.specs.ExpressionView.{expr_tree};
-ghost use Rattle.ob_tree.specs.ProgramView.{stmt_tree, item_tree};
+ghost use Rattle.ob_tree.specs.ProgramView.{stmt_tree};
+ghost use Rattle.ob_tree.specs.ProgramParts.{add_statement};
 ghost use Rattle.ob_prelude.specs.Lists.{block_trees};
 ghost use Rattle.ob_prelude.specs.Nodes.{named, element as element_of};
-ghost use Rattle.ob_prelude.specs.Copies.{filled as filled_of, start as start_of, filling as filling_of, memset_items, memset_tree, memcpy_items, memcpy_tree};
+ghost use Rattle.ob_prelude.specs.Copies.{filled as filled_of, start as start_of, filling as filling_of, memset_items, memcpy_items};
 
-use crate::functions::{declare, function, put_param};
+use crate::functions::declare;
 use crate::nodes::{element, moved, name, number, of_names, set_to};
 use crate::statements::{assign_stmt, for_stmt, put, put_name, put_return_name};
 use crate::types::Base;
 use ob_base::NoMemory;
-use ob_tree::{BlockItem, Expr, Item, Sign, Stmt};
+use ob_tree::{BlockItem, Expr, Sign, Stmt};
 use std::alloc::Global;
 
 /// `d[i] = value;`
@@ -39,68 +40,42 @@ fn filling(alloc: Global, value: Box<Expr>) -> Result<Box<Stmt>, NoMemory>
     for_stmt(alloc, start, test, next, body)
 }
 
-fn memset_loop(alloc: Global) -> Result<Box<Stmt>, NoMemory>
-    ensures { IfOk result (λ s. stmt_tree s.value ≡ filling_of (named (codes "c"))) }
+fn put_set_loop(alloc: Global, items: &mut Vec<BlockItem>) -> Result<(), NoMemory>
+    ensures { OnOk result (block_trees items.new.items ≡ add_statement (block_trees items.old.items) (filling_of (named (codes "c")))) }
 {
     let value = name(alloc, b"c")?;
-    filling(alloc, value)
+    let stmt = filling(alloc, value)?;
+    put(items, stmt)
 }
 
-fn memset_body(alloc: Global) -> Result<Vec<BlockItem>, NoMemory>
-    ensures { IfOk result (λ items. block_trees items.items ≡ memset_items) }
+pub fn memset(alloc: Global, items: &mut Vec<BlockItem>) -> Result<(), NoMemory>
+    requires { items.old.items ≡ [] }
+    ensures { OnOk result (block_trees items.new.items ≡ memset_items) }
 {
-    let stmt = memset_loop(alloc)?;
-    let mut items = Vec::new(alloc);
-    declare(alloc, &mut items, Base::Char, 1, b"d")?;
-    declare(alloc, &mut items, Base::Size, 0, b"i")?;
-    put_name(alloc, &mut items, b"d", b"p")?;
-    put(&mut items, stmt)?;
-    put_return_name(alloc, &mut items, b"p")?;
-    Ok(items)
+    declare(alloc, items, Base::Char, 1, b"d")?;
+    declare(alloc, items, Base::Size, 0, b"i")?;
+    put_name(alloc, items, b"d", b"p")?;
+    put_set_loop(alloc, items)?;
+    put_return_name(alloc, items, b"p")
 }
 
-#[tactic(auto, unfolding(crate::specs::Copies::memset_tree))]
-pub fn memset(alloc: Global) -> Result<Item, NoMemory>
-    ensures { IfOk result (λ i. item_tree i ≡ memset_tree) }
-{
-    let mut params = Vec::new(alloc);
-    put_param(alloc, &mut params, Base::Void, 1, b"p")?;
-    put_param(alloc, &mut params, Base::Int, 0, b"c")?;
-    put_param(alloc, &mut params, Base::Size, 0, b"n")?;
-    let items = memset_body(alloc)?;
-    function(alloc, Base::Void, 1, b"memset", params, items)
-}
-
-fn memcpy_loop(alloc: Global) -> Result<Box<Stmt>, NoMemory>
-    ensures { IfOk result (λ s. stmt_tree s.value ≡ filling_of (element_of (codes "s") (codes "i"))) }
+fn put_copy_loop(alloc: Global, items: &mut Vec<BlockItem>) -> Result<(), NoMemory>
+    ensures { OnOk result (block_trees items.new.items ≡ add_statement (block_trees items.old.items) (filling_of (element_of (codes "s") (codes "i")))) }
 {
     let value = element(alloc, b"s", b"i")?;
-    filling(alloc, value)
+    let stmt = filling(alloc, value)?;
+    put(items, stmt)
 }
 
-fn memcpy_body(alloc: Global) -> Result<Vec<BlockItem>, NoMemory>
-    ensures { IfOk result (λ items. block_trees items.items ≡ memcpy_items) }
+pub fn memcpy(alloc: Global, items: &mut Vec<BlockItem>) -> Result<(), NoMemory>
+    requires { items.old.items ≡ [] }
+    ensures { OnOk result (block_trees items.new.items ≡ memcpy_items) }
 {
-    let stmt = memcpy_loop(alloc)?;
-    let mut items = Vec::new(alloc);
-    declare(alloc, &mut items, Base::Char, 1, b"d")?;
-    declare(alloc, &mut items, Base::Char, 1, b"s")?;
-    declare(alloc, &mut items, Base::Size, 0, b"i")?;
-    put_name(alloc, &mut items, b"d", b"p")?;
-    put_name(alloc, &mut items, b"s", b"q")?;
-    put(&mut items, stmt)?;
-    put_return_name(alloc, &mut items, b"p")?;
-    Ok(items)
-}
-
-#[tactic(auto, unfolding(crate::specs::Copies::memcpy_tree))]
-pub fn memcpy(alloc: Global) -> Result<Item, NoMemory>
-    ensures { IfOk result (λ i. item_tree i ≡ memcpy_tree) }
-{
-    let mut params = Vec::new(alloc);
-    put_param(alloc, &mut params, Base::Void, 1, b"p")?;
-    put_param(alloc, &mut params, Base::Void, 1, b"q")?;
-    put_param(alloc, &mut params, Base::Size, 0, b"n")?;
-    let items = memcpy_body(alloc)?;
-    function(alloc, Base::Void, 1, b"memcpy", params, items)
+    declare(alloc, items, Base::Char, 1, b"d")?;
+    declare(alloc, items, Base::Char, 1, b"s")?;
+    declare(alloc, items, Base::Size, 0, b"i")?;
+    put_name(alloc, items, b"d", b"p")?;
+    put_name(alloc, items, b"s", b"q")?;
+    put_copy_loop(alloc, items)?;
+    put_return_name(alloc, items, b"p")
 }

@@ -1,11 +1,13 @@
-ghost use Rattle.std.specs.Prelude.{◌≡◌, IfOk, codes};
+ghost use Rattle.std.specs.Prelude.{◌≡◌, [], IfOk, OnOk, codes};
 ghost use Rattle.ob_tree.specs.ExpressionView.{expr_tree};
-ghost use Rattle.ob_tree.specs.ProgramView.{stmt_tree, item_tree};
+ghost use Rattle.ob_tree.specs.ProgramView.{stmt_tree};
+ghost use Rattle.ob_tree.specs.ProgramParts.{add_statement};
+ghost use Rattle.ob_tree.specs.declared.tokens.Sign.TheVariants as sign;
 ghost use Rattle.ob_prelude.specs.Lists.{block_trees};
-ghost use Rattle.ob_prelude.specs.Nodes.{named};
-ghost use Rattle.ob_prelude.specs.Printing.{digit as digit_tree, next_digit as next_digit_tree, digit_kept as digit_kept_tree, digits_kept as digits_kept_tree, digit_printed as digit_printed_tree, digits_printed as digits_printed_tree, print_u_items, print_u_tree, in_decimal as in_decimal_of, magnitude as magnitude_tree, negative as negative_tree, negative_block as negative_block_tree, if_negative as if_negative_tree, print_d_items, print_d_tree};
+ghost use Rattle.ob_prelude.specs.Nodes.{named, of_names as of_names_of, set_to, expr_stmt, block as block_of, return_stmt};
+ghost use Rattle.ob_prelude.specs.Printing.{digit as digit_tree, next_digit as next_digit_tree, digit_kept as digit_kept_tree, digits_kept, digit_printed as digit_printed_tree, digits_printed, print_u_items, in_decimal as in_decimal_of, magnitude as magnitude_tree, negative as negative_tree, negative_block as negative_block_tree, if_negative, print_d_items};
 
-use crate::functions::{declare, declare_array, function, put_param};
+use crate::functions::{declare, declare_array};
 use crate::nodes::{
     binary, call_two, cast, element, index, name, number, of_names, string, with_number,
 };
@@ -16,7 +18,7 @@ use crate::statements::{
 };
 use crate::types::Base;
 use ob_base::NoMemory;
-use ob_tree::{BlockItem, Expr, Item, Sign, Stmt};
+use ob_tree::{BlockItem, Expr, Sign, Stmt};
 use std::alloc::Global;
 
 /// `"0123456789abcdef"[v % b]`
@@ -36,24 +38,45 @@ fn next_digit(alloc: Global) -> Result<Box<Stmt>, NoMemory>
     assign_stmt(alloc, left, right)
 }
 
+fn put_next_digit(alloc: Global, items: &mut Vec<BlockItem>) -> Result<(), NoMemory>
+    ensures { OnOk result (block_trees items.new.items ≡ add_statement (block_trees items.old.items) next_digit_tree) }
+{
+    let stmt = next_digit(alloc)?;
+    put(items, stmt)
+}
+
+/// Puts `v = v / b;` behind the items.
+fn put_rest(alloc: Global, items: &mut Vec<BlockItem>) -> Result<(), NoMemory>
+    ensures { OnOk result (block_trees items.new.items ≡ add_statement (block_trees items.old.items) (expr_stmt (set_to (codes "v") (of_names_of (codes "v") sign.Slash (codes "b"))))) }
+{
+    let rest = of_names(alloc, b"v", Sign::Slash, b"b")?;
+    put_set(alloc, items, b"v", rest)
+}
+
+fn put_digit(alloc: Global, items: &mut Vec<BlockItem>) -> Result<(), NoMemory>
+    requires { items.old.items ≡ [] }
+    ensures { OnOk result (block_of (block_trees items.new.items) ≡ digit_kept_tree) }
+{
+    put_next_digit(alloc, items)?;
+    put_step(alloc, items, b"n", Sign::Plus, 1)?;
+    put_rest(alloc, items)
+}
+
 fn digit_kept(alloc: Global) -> Result<Box<Stmt>, NoMemory>
     ensures { IfOk result (λ s. stmt_tree s.value ≡ digit_kept_tree) }
 {
-    let stmt = next_digit(alloc)?;
-    let rest = of_names(alloc, b"v", Sign::Slash, b"b")?;
     let mut items = Vec::new(alloc);
-    put(&mut items, stmt)?;
-    put_step(alloc, &mut items, b"n", Sign::Plus, 1)?;
-    put_set(alloc, &mut items, b"v", rest)?;
+    put_digit(alloc, &mut items)?;
     block(alloc, items)
 }
 
-fn digits_kept(alloc: Global) -> Result<Box<Stmt>, NoMemory>
-    ensures { IfOk result (λ s. stmt_tree s.value ≡ digits_kept_tree) }
+fn put_digits_kept(alloc: Global, items: &mut Vec<BlockItem>) -> Result<(), NoMemory>
+    ensures { OnOk result (block_trees items.new.items ≡ add_statement (block_trees items.old.items) digits_kept) }
 {
     let body = digit_kept(alloc)?;
     let test = with_number(alloc, b"v", Sign::NotEq, 0)?;
-    do_stmt(alloc, body, test)
+    let stmt = do_stmt(alloc, body, test)?;
+    put(items, stmt)
 }
 
 fn digit_printed(alloc: Global) -> Result<Box<Stmt>, NoMemory>
@@ -65,40 +88,27 @@ fn digit_printed(alloc: Global) -> Result<Box<Stmt>, NoMemory>
     block(alloc, items)
 }
 
-fn digits_printed(alloc: Global) -> Result<Box<Stmt>, NoMemory>
-    ensures { IfOk result (λ s. stmt_tree s.value ≡ digits_printed_tree) }
+fn put_digits_printed(alloc: Global, items: &mut Vec<BlockItem>) -> Result<(), NoMemory>
+    ensures { OnOk result (block_trees items.new.items ≡ add_statement (block_trees items.old.items) digits_printed) }
 {
     let test = with_number(alloc, b"k", Sign::Gt, 0)?;
     let body = digit_printed(alloc)?;
-    while_stmt(alloc, test, body)
+    let stmt = while_stmt(alloc, test, body)?;
+    put(items, stmt)
 }
 
-fn print_u_body(alloc: Global) -> Result<Vec<BlockItem>, NoMemory>
-    ensures { IfOk result (λ items. block_trees items.items ≡ print_u_items) }
+pub fn print_u(alloc: Global, items: &mut Vec<BlockItem>) -> Result<(), NoMemory>
+    requires { items.old.items ≡ [] }
+    ensures { OnOk result (block_trees items.new.items ≡ print_u_items) }
 {
-    let kept = digits_kept(alloc)?;
-    let printed = digits_printed(alloc)?;
-    let mut items = Vec::new(alloc);
-    declare_array(alloc, &mut items, Base::Char, b"d", 24)?;
-    declare(alloc, &mut items, Base::Int, 0, b"n")?;
-    declare(alloc, &mut items, Base::Int, 0, b"k")?;
-    put_number(alloc, &mut items, b"n", 0)?;
-    put(&mut items, kept)?;
-    put_name(alloc, &mut items, b"k", b"n")?;
-    put(&mut items, printed)?;
-    put_return_name(alloc, &mut items, b"n")?;
-    Ok(items)
-}
-
-#[tactic(auto, unfolding(crate::specs::Printing::print_u_tree))]
-pub fn print_u(alloc: Global) -> Result<Item, NoMemory>
-    ensures { IfOk result (λ i. item_tree i ≡ print_u_tree) }
-{
-    let mut params = Vec::new(alloc);
-    put_param(alloc, &mut params, Base::UnsignedLong, 0, b"v")?;
-    put_param(alloc, &mut params, Base::UnsignedLong, 0, b"b")?;
-    let items = print_u_body(alloc)?;
-    function(alloc, Base::Int, 0, b"__print_u", params, items)
+    declare_array(alloc, items, Base::Char, b"d", 24)?;
+    declare(alloc, items, Base::Int, 0, b"n")?;
+    declare(alloc, items, Base::Int, 0, b"k")?;
+    put_number(alloc, items, b"n", 0)?;
+    put_digits_kept(alloc, items)?;
+    put_name(alloc, items, b"k", b"n")?;
+    put_digits_printed(alloc, items)?;
+    put_return_name(alloc, items, b"n")
 }
 
 /// `__print_u(value, 10)`
@@ -139,38 +149,27 @@ fn negative_block(alloc: Global) -> Result<Box<Stmt>, NoMemory>
     block(alloc, items)
 }
 
-fn if_negative(alloc: Global) -> Result<Box<Stmt>, NoMemory>
-    ensures { IfOk result (λ s. stmt_tree s.value ≡ if_negative_tree) }
+fn put_if_negative(alloc: Global, items: &mut Vec<BlockItem>) -> Result<(), NoMemory>
+    ensures { OnOk result (block_trees items.new.items ≡ add_statement (block_trees items.old.items) if_negative) }
 {
     let test = with_number(alloc, b"v", Sign::Lt, 0)?;
     let then = negative_block(alloc)?;
-    if_stmt(alloc, test, then)
+    let stmt = if_stmt(alloc, test, then)?;
+    put(items, stmt)
 }
 
-fn plain(alloc: Global) -> Result<Box<Expr>, NoMemory>
-    ensures { IfOk result (λ e. expr_tree e.value ≡ in_decimal_of (named (codes "v"))) }
+fn put_plain(alloc: Global, items: &mut Vec<BlockItem>) -> Result<(), NoMemory>
+    ensures { OnOk result (block_trees items.new.items ≡ add_statement (block_trees items.old.items) (return_stmt (in_decimal_of (named (codes "v"))))) }
 {
     let value = name(alloc, b"v")?;
-    in_decimal(alloc, value)
+    let printed = in_decimal(alloc, value)?;
+    put_return(alloc, items, printed)
 }
 
-fn print_d_body(alloc: Global) -> Result<Vec<BlockItem>, NoMemory>
-    ensures { IfOk result (λ items. block_trees items.items ≡ print_d_items) }
+pub fn print_d(alloc: Global, items: &mut Vec<BlockItem>) -> Result<(), NoMemory>
+    requires { items.old.items ≡ [] }
+    ensures { OnOk result (block_trees items.new.items ≡ print_d_items) }
 {
-    let stmt = if_negative(alloc)?;
-    let value = plain(alloc)?;
-    let mut items = Vec::new(alloc);
-    put(&mut items, stmt)?;
-    put_return(alloc, &mut items, value)?;
-    Ok(items)
-}
-
-#[tactic(auto, unfolding(crate::specs::Printing::print_d_tree))]
-pub fn print_d(alloc: Global) -> Result<Item, NoMemory>
-    ensures { IfOk result (λ i. item_tree i ≡ print_d_tree) }
-{
-    let mut params = Vec::new(alloc);
-    put_param(alloc, &mut params, Base::Long, 0, b"v")?;
-    let items = print_d_body(alloc)?;
-    function(alloc, Base::Int, 0, b"__print_d", params, items)
+    put_if_negative(alloc, items)?;
+    put_plain(alloc, items)
 }

@@ -1,17 +1,15 @@
-ghost use Rattle.std.specs.Prelude.{◌≡◌, ◌++◌, ◌∷◌, [], map, Bool, Some, IfOk, OnOk};
+ghost use Rattle.std.specs.Prelude.{◌≡◌, Bool, IfOk, OnOk};
 ghost use Rattle.ob_tree.specs.Trees.{ObjTree, DimTrees};
-ghost use Rattle.ob_tree.specs.Programs.{ParamsTree, ItemTree};
 ghost use Rattle.ob_tree.specs.ExpressionView.{expr_tree, spec_tree, obj_tree, obj_trees, dim_trees};
-ghost use Rattle.ob_tree.specs.ProgramView.{local_tree, param_tree, item_tree};
+ghost use Rattle.ob_tree.specs.ProgramView.{local_tree};
 ghost use Rattle.ob_tree.specs.ProgramParts.{add_local};
-ghost use Rattle.ob_prelude.specs.Nodes.{no_place, block as block_tree_of, local as local_of, variable, array, param as param_of, function as function_of};
+ghost use Rattle.ob_prelude.specs.Nodes.{no_place, local as local_of, variable, array};
 ghost use Rattle.ob_prelude.specs.Lists.{block_trees};
 
 use crate::nodes::number;
-use crate::statements::block_of;
 use crate::types::{Base, NOWHERE, spec, text_of};
 use ob_base::{NoMemory, Text, listed, push_on};
-use ob_tree::{BlockItem, Dim, Expr, Item, ItemNode, Local, ObjDecl, Param, Params, Spec};
+use ob_tree::{BlockItem, Dim, Expr, Local, ObjDecl, Spec};
 use std::alloc::Global;
 
 #[tactic(auto, using(crate::proofs::Views::declarator_made))]
@@ -96,69 +94,4 @@ pub fn declare_array(
     let text = text_of(alloc, text)?;
     let local = declared(alloc, base, declarator(0, text, dims))?;
     put_local(items, local)
-}
-
-fn param(alloc: Global, spec: Spec, stars: u32, name: Text) -> Param
-    ensures { param_tree result ≡ record { first = no_place; line = 0; spec = spec_tree spec; stars = stars; name = Some name; at = no_place; dims = DimTrees.NoDims } }
-{
-    Param {
-        first: NOWHERE,
-        line: 0,
-        spec,
-        stars,
-        name: Some(name),
-        at: NOWHERE,
-        dims: Vec::new(alloc),
-    }
-}
-
-/// Puts the parameter `base *..text` behind the parameters.
-#[tactic(auto, using(crate::proofs::Views::params_pushed))]
-pub fn put_param(
-    alloc: Global,
-    params: &mut Vec<Param>,
-    base: Base,
-    stars: u32,
-    text: &[u8],
-) -> Result<(), NoMemory>
-    ensures { OnOk result (map param_tree params.new.items ≡ map param_tree params.old.items ++ param_of base stars text.now ∷ []) }
-{
-    let text = text_of(alloc, text)?;
-    let spec = spec(alloc, base)?;
-    push_on(params, param(alloc, spec, stars, text))
-}
-
-fn item(spec: Spec, stars: u32, name: Text, params: Vec<Param>, items: Vec<BlockItem>) -> Item
-    ensures { item_tree result ≡ ItemTree.Function no_place 0 Bool.false (spec_tree spec) stars name no_place (ParamsTree.Listed (map param_tree params.items)) (block_tree_of (block_trees items.items)) }
-{
-    let node = ItemNode::Function {
-        stars,
-        name,
-        at: NOWHERE,
-        params: Params::List(params),
-        body: block_of(items),
-    };
-    Item {
-        first: NOWHERE,
-        line: 0,
-        fixed: false,
-        spec,
-        node,
-    }
-}
-
-/// The function `base *..text(params) {items}`.
-pub fn function(
-    alloc: Global,
-    base: Base,
-    stars: u32,
-    text: &[u8],
-    params: Vec<Param>,
-    items: Vec<BlockItem>,
-) -> Result<Item, NoMemory>
-    ensures { IfOk result (λ i. item_tree i ≡ function_of base stars text.now (map param_tree params.items) (block_trees items.items)) }
-{
-    let text = text_of(alloc, text)?;
-    let spec = spec(alloc, base)?;
-    Ok(item(spec, stars, text, params, items))
 }

@@ -1,6 +1,6 @@
 //! The library in C: `complete` puts the functions of it that a program needs behind the program's items. Each has the
-//! tree that `specs/` gives for it; `law_library` says that this tree spells the function's text, that all its places are
-//! the greatest of `u32` and all its lines 0, and that it defines a function of the name. Stands on `ob_tree` for
+//! tree that `specs/` gives for it; `law_library` says that this tree is that of the function's text, that all its places
+//! are the greatest of `u32` and all its lines 0, and that it defines a function of the name. Stands on `ob_tree` for
 //! the trees, on `ob_words` for the types of numbers and on `ob_base` for lists and boxes.
 //!
 //! To be believed: `Texts`, what the functions' texts are; `Nowhere`, how a tree of the library is placed; `Calls`, which
@@ -22,6 +22,7 @@ mod laws;
 mod library;
 mod nodes;
 mod numbers;
+mod params;
 mod printing;
 mod program_calls;
 mod statements;

@@ -1,20 +1,21 @@
-ghost use Rattle.std.specs.Prelude.{◌≡◌, pos, IfOk, OnOk, codes};
+ghost use Rattle.std.specs.Prelude.{◌≡◌, pos, [], IfOk, OnOk, codes};
 ghost use Rattle.ob_tree.specs.ExpressionView.{expr_tree};
-ghost use Rattle.ob_tree.specs.ProgramView.{stmt_tree, item_tree};
+ghost use Rattle.ob_tree.specs.ProgramView.{stmt_tree};
 ghost use Rattle.ob_prelude.specs.Lists.{block_trees};
 ghost use Rattle.ob_tree.specs.ProgramParts.{add_statement, add_local};
 ghost use Rattle.ob_prelude.specs.declared.types.Base.TheVariants as base;
-ghost use Rattle.ob_prelude.specs.Nodes.{element_with as element_with_of, set_number, variable};
-ghost use Rattle.ob_prelude.specs.Numbers.{between as between_of, is_space as is_space_tree, spaces_skipped as spaces_skipped_tree, minus_taken as minus_taken_tree, plus_taken as plus_taken_tree, sign_taken as sign_taken_tree, with_digit as with_digit_tree, digit_taken as digit_taken_tree, digits_taken as digits_taken_tree, negated as negated_tree, signed_number as signed_number_tree, atoi_items, atoi_tree};
+ghost use Rattle.ob_prelude.specs.Nodes.{element_with as element_with_of, return_stmt, set_number, variable};
+ghost use Rattle.ob_prelude.specs.Numbers.{between as between_of, is_space as is_space_tree, spaces_skipped as spaces_skipped_tree, minus_taken as minus_taken_tree, plus_taken as plus_taken_tree, sign_taken as sign_taken_tree, with_digit as with_digit_tree, digit_taken as digit_taken_tree, digits_taken as digits_taken_tree, negated as negated_tree, signed_number as signed_number_tree, atoi_items};
 
-use crate::functions::{declare, function, put_param};
+use crate::functions::declare;
 use crate::nodes::{binary, conditional, element_with, name, number, paren, with_number};
 use crate::statements::{
-    block, if_else_stmt, if_stmt, put, put_number, put_return, put_set, put_step, step, while_stmt,
+    block, if_else_stmt, if_stmt, put, put_number, put_return, put_set, put_step, step, while_step,
+    while_stmt,
 };
 use crate::types::Base;
 use ob_base::NoMemory;
-use ob_tree::{BlockItem, Expr, Item, Sign, Stmt};
+use ob_tree::{BlockItem, Expr, Sign, Stmt};
 use std::alloc::Global;
 
 /// `s[i] sign value`
@@ -47,8 +48,7 @@ fn spaces_skipped(alloc: Global) -> Result<Box<Stmt>, NoMemory>
     ensures { IfOk result (λ s. stmt_tree s.value ≡ spaces_skipped_tree) }
 {
     let test = is_space(alloc)?;
-    let body = step(alloc, b"i", Sign::Plus, 1)?;
-    while_stmt(alloc, test, body)
+    while_step(alloc, test, b"i")
 }
 
 fn minus_taken(alloc: Global) -> Result<Box<Stmt>, NoMemory>
@@ -151,24 +151,19 @@ fn put_digits(alloc: Global, items: &mut Vec<BlockItem>) -> Result<(), NoMemory>
     put(items, stmt)
 }
 
-fn atoi_body(alloc: Global) -> Result<Vec<BlockItem>, NoMemory>
-    ensures { IfOk result (λ items. block_trees items.items ≡ atoi_items) }
+fn put_signed(alloc: Global, items: &mut Vec<BlockItem>) -> Result<(), NoMemory>
+    ensures { OnOk result (block_trees items.new.items ≡ add_statement (block_trees items.old.items) (return_stmt signed_number_tree)) }
 {
     let value = signed_number(alloc)?;
-    let mut items = Vec::new(alloc);
-    put_begin(alloc, &mut items)?;
-    put_sign(alloc, &mut items)?;
-    put_digits(alloc, &mut items)?;
-    put_return(alloc, &mut items, value)?;
-    Ok(items)
+    put_return(alloc, items, value)
 }
 
-#[tactic(auto, unfolding(crate::specs::Numbers::atoi_tree))]
-pub fn atoi(alloc: Global) -> Result<Item, NoMemory>
-    ensures { IfOk result (λ i. item_tree i ≡ atoi_tree) }
+pub fn atoi(alloc: Global, items: &mut Vec<BlockItem>) -> Result<(), NoMemory>
+    requires { items.old.items ≡ [] }
+    ensures { OnOk result (block_trees items.new.items ≡ atoi_items) }
 {
-    let mut params = Vec::new(alloc);
-    put_param(alloc, &mut params, Base::Char, 1, b"s")?;
-    let items = atoi_body(alloc)?;
-    function(alloc, Base::Int, 0, b"atoi", params, items)
+    put_begin(alloc, items)?;
+    put_sign(alloc, items)?;
+    put_digits(alloc, items)?;
+    put_signed(alloc, items)
 }

@@ -1,7 +1,8 @@
-ghost use Rattle.std.specs.Prelude.{◌≡◌, IfOk, OnOk};
+ghost use Rattle.std.specs.Prelude.{◌≡◌, pos, IfOk, OnOk};
 ghost use Rattle.ob_tree.specs.ExpressionView.{expr_tree};
 ghost use Rattle.ob_tree.specs.ProgramView.{stmt_tree};
 ghost use Rattle.ob_tree.specs.ProgramParts.{add_statement};
+ghost use Rattle.ob_tree.specs.declared.tokens.Sign.TheVariants as sign;
 ghost use Rattle.ob_prelude.specs.Nodes.{no_place, named, number as number_of, expr_stmt as expr_stmt_of, block as block_tree_of, while_stmt as while_stmt_of, do_stmt as do_stmt_of, for_stmt as for_stmt_of, if_stmt as if_stmt_of, if_else_stmt as if_else_stmt_of, return_stmt as return_stmt_of, step as step_of, set_to, set_number, set_name, scan as scan_of, assign as assign_of};
 ghost use Rattle.ob_prelude.specs.Lists.{block_trees};
 
@@ -120,12 +121,11 @@ pub fn step(alloc: Global, text: &[u8], sign: Sign, value: i128) -> Result<Box<S
     expr_stmt(alloc, expr)
 }
 
-/// `while (array[place]) place = place + 1;`
-pub fn scan(alloc: Global, array: &[u8], place: &[u8]) -> Result<Box<Stmt>, NoMemory>
-    ensures { IfOk result (λ s. stmt_tree s.value ≡ scan_of array.now place.now) }
+/// `while (test) text = text + 1;`
+pub fn while_step(alloc: Global, test: Box<Expr>, text: &[u8]) -> Result<Box<Stmt>, NoMemory>
+    ensures { IfOk result (λ s. stmt_tree s.value ≡ while_stmt_of (expr_tree test.value) (step_of text.now sign.Plus (pos 1))) }
 {
-    let test = element(alloc, array, place)?;
-    let body = step(alloc, place, Sign::Plus, 1)?;
+    let body = step(alloc, text, Sign::Plus, 1)?;
     while_stmt(alloc, test, body)
 }
 
@@ -194,6 +194,7 @@ pub fn put_step(
     put(items, stmt)
 }
 
+/// Puts `while (array[place]) place = place + 1;` behind the items.
 pub fn put_scan(
     alloc: Global,
     items: &mut Vec<BlockItem>,
@@ -202,7 +203,8 @@ pub fn put_scan(
 ) -> Result<(), NoMemory>
     ensures { OnOk result (block_trees items.new.items ≡ add_statement (block_trees items.old.items) (scan_of array.now place.now)) }
 {
-    let stmt = scan(alloc, array, place)?;
+    let test = element(alloc, array, place)?;
+    let stmt = while_step(alloc, test, place)?;
     put(items, stmt)
 }
 

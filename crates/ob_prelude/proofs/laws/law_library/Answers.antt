@@ -1,13 +1,10 @@
 use Rattle.std.proofs.Common.{refl}
 use Rattle.ob_prelude.specs.declared.library.LibraryFunction.TheVariants as f
-use Rattle.ob_prelude.specs.Strings.{strlen_tree, strcpy_tree, strcat_tree, strcmp_tree}
-use Rattle.ob_prelude.specs.Copies.{memset_tree, memcpy_tree}
-use Rattle.ob_prelude.specs.Printing.{puts_tree, print_u_tree, print_d_tree, print_s_tree}
-use Rattle.ob_prelude.specs.Numbers.{atoi_tree}
+use Rattle.ob_prelude.specs.Library.{tree_of}
 use Rattle.ob_prelude.proofs.laws.law_library.Goals as goal
 
 pub returns-clause-spelled : goal.returns-clause-spelled
-unfolding strlen_tree strcpy_tree strcat_tree strcmp_tree memset_tree memcpy_tree puts_tree print_u_tree print_d_tree print_s_tree atoi_tree
+unfolding tree_of
 returns-clause-spelled c f.Strlen = refl
 returns-clause-spelled c f.Strcpy = refl
 returns-clause-spelled c f.Strcat = refl
@@ -21,7 +18,7 @@ returns-clause-spelled c f.PrintD = refl
 returns-clause-spelled c f.PrintS = refl
 
 pub returns-clause-nowhere : goal.returns-clause-nowhere
-unfolding strlen_tree strcpy_tree strcat_tree strcmp_tree memset_tree memcpy_tree puts_tree print_u_tree print_d_tree print_s_tree atoi_tree
+unfolding tree_of
 returns-clause-nowhere c f.Strlen = refl
 returns-clause-nowhere c f.Strcpy = refl
 returns-clause-nowhere c f.Strcat = refl
@@ -35,7 +32,7 @@ returns-clause-nowhere c f.PrintD = refl
 returns-clause-nowhere c f.PrintS = refl
 
 pub returns-clause-named : goal.returns-clause-named
-unfolding strlen_tree strcpy_tree strcat_tree strcmp_tree memset_tree memcpy_tree puts_tree print_u_tree print_d_tree print_s_tree atoi_tree
+unfolding tree_of
 returns-clause-named c f.Strlen = refl
 returns-clause-named c f.Strcpy = refl
 returns-clause-named c f.Strcat = refl
