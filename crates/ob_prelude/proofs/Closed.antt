@@ -4,9 +4,9 @@ use Rattle.std.specs.Prelude.{if◌then◌else◌, IsTrue}
 use Rattle.std.specs.List.{list_any, flat_map}
 use Rattle.std.proofs.lemmas.List.Folds.{list_any-append}
 use Rattle.ob_tree.specs.Programs.{ItemTree, ProgramTree}
-use Rattle.ob_prelude.specs.declared.library.LibraryFunction.{LibraryFunction}
-use Rattle.ob_prelude.specs.declared.library.LibraryFunction.TheVariants as f
-use Rattle.ob_prelude.specs.Library.{library, name_of, tree_of}
+use Rattle.ob_library.specs.declared.library.LibraryFunction.{LibraryFunction}
+use Rattle.ob_library.specs.declared.library.LibraryFunction.TheVariants as f
+use Rattle.ob_library.specs.Library.{library, name_of, tree_of}
 use Rattle.ob_prelude.specs.Calls.{item_calls, item_defines, program_calls, program_defines}
 use Rattle.ob_prelude.specs.Completion.{wanted_within, wanted, share, complete}
 use Rattle.ob_prelude.proofs.Wanted.{or-false}

@@ -4,9 +4,9 @@ use Rattle.std.specs.Prelude.{not, codes}
 use Rattle.ob_tree.specs.declared.programs.Item.{Item}
 use Rattle.ob_tree.specs.Programs.{ProgramTree}
 use Rattle.ob_tree.specs.ProgramView.{item_tree}
-use Rattle.ob_prelude.specs.declared.library.LibraryFunction.{LibraryFunction}
-use Rattle.ob_prelude.specs.declared.library.LibraryFunction.TheVariants as f
-use Rattle.ob_prelude.specs.Library.{name_of, tree_of}
+use Rattle.ob_library.specs.declared.library.LibraryFunction.{LibraryFunction}
+use Rattle.ob_library.specs.declared.library.LibraryFunction.TheVariants as f
+use Rattle.ob_library.specs.Library.{name_of, tree_of}
 use Rattle.ob_prelude.specs.Calls.{program_calls, program_defines}
 use Rattle.ob_prelude.specs.Completion.{wanted_within, wanted, called_alone}
 

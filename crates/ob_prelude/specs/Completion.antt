@@ -2,8 +2,8 @@
 use Rattle.std.specs.Prelude.{ℕ, zero, suc, List, [], ◌∷◌, ◌++◌, Bool, true, false, not, ◌&&◌, ◌||◌, if◌then◌else◌}
 use Rattle.std.specs.List.{list_any, flat_map}
 use Rattle.ob_tree.specs.Programs.{ItemTree, ProgramTree}
-use Rattle.ob_prelude.specs.declared.library.LibraryFunction.{LibraryFunction}
-use Rattle.ob_prelude.specs.Library.{library, name_of, tree_of}
+use Rattle.ob_library.specs.declared.library.LibraryFunction.{LibraryFunction}
+use Rattle.ob_library.specs.Library.{library, name_of, tree_of}
 use Rattle.ob_prelude.specs.Calls.{item_calls, program_calls, program_defines}
 
 -- Whether the function is appended for calls that so many steps lead to: the program doesn't define it, and the program

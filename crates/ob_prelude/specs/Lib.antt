@@ -1,11 +1,2 @@
-pub mod Nodes
-pub mod Strings
-pub mod Copies
-pub mod Printing
-pub mod Numbers
-pub mod Library
-pub mod Texts
-pub mod Nowhere
 pub mod Calls
 pub mod Completion
-pub mod Lists

@@ -3,11 +3,26 @@ ghost use Rattle.std.specs.List.{flat_map};
 ghost use Rattle.ob_tree.specs.ProgramView.{item_tree, program_tree};
 ghost use Rattle.ob_prelude.specs.Completion.{called_alone, wanted, share, complete as complete_of};
 
-use crate::library::{LIBRARY, LibraryFunction};
 use crate::program_calls::{program_calls, program_defines};
 use ob_base::{NoMemory, push_on};
+use ob_library::LibraryFunction;
 use ob_tree::{Item, Program};
 use std::alloc::Global;
+
+/// The functions, in the order in which they are appended to a program.
+const LIBRARY: [LibraryFunction; 11] = [
+    LibraryFunction::Strlen,
+    LibraryFunction::Strcpy,
+    LibraryFunction::Strcat,
+    LibraryFunction::Strcmp,
+    LibraryFunction::Memset,
+    LibraryFunction::Memcpy,
+    LibraryFunction::Puts,
+    LibraryFunction::Atoi,
+    LibraryFunction::PrintU,
+    LibraryFunction::PrintD,
+    LibraryFunction::PrintS,
+];
 
 /// Whether the program calls the function and doesn't define it.
 fn is_called(p: &Program, function: LibraryFunction) -> bool

@@ -1,6 +1,0 @@
-use Rattle.ob_prelude.proofs.Views.{block_tree}
-use Rattle.ob_prelude.specs.Nodes.{no_place}
-use Rattle.ob_prelude.proofs.statements.block_of.Goals as goal
-
-pub returns : goal.returns
-returns c = block_tree no_place 0 c.args.items
