@@ -5,7 +5,7 @@ use Rattle.std.specs.List.{AllByRecursion, list_all}
 use Rattle.std.specs.Str.{bytes_eq}
 use Rattle.std.proofs.lemmas.Bool.{eqb-true, or_cases, false≢true}
 use Rattle.std.proofs.lemmas.Slice.Eq.{bytes_eq-Decides}
-use Rattle.std.proofs.Math.ListN.{append-nil}
+use Rattle.std.proofs.lemmas.List.{append-nil}
 use Rattle.ob_words.specs.declared.types.IntType.{IntType}
 use Rattle.ob_words.specs.declared.types.IntType.TheVariants as int
 use Rattle.ob_tree.specs.declared.constants.Base.{Base}
@@ -75,20 +75,7 @@ AreConstants ts = AllByRecursion (λ t. IsSpelled (kind.Number (pos (number 10 t
 
 constants_spelled : AreConstants constants
 unfolding is_nonzero_digit is_digit
-constants_spelled = (
-  zero_spelled,
-  decimal (codes "1") refl refl refl,
-  decimal (codes "9") refl refl refl,
-  decimal (codes "10") refl refl refl,
-  decimal (codes "13") refl refl refl,
-  decimal (codes "24") refl refl refl,
-  decimal (codes "32") refl refl refl,
-  decimal (codes "43") refl refl refl,
-  decimal (codes "45") refl refl refl,
-  decimal (codes "48") refl refl refl,
-  decimal (codes "57") refl refl refl,
-  tt,
-)
+constants_spelled = (zero_spelled, (decimal (codes "1") refl refl refl, (decimal (codes "9") refl refl refl, (decimal (codes "10") refl refl refl, (decimal (codes "13") refl refl refl, (decimal (codes "24") refl refl refl, (decimal (codes "32") refl refl refl, (decimal (codes "43") refl refl refl, (decimal (codes "45") refl refl refl, (decimal (codes "48") refl refl refl, (decimal (codes "57") refl refl refl, tt)))))))))))
 
 abbrev has_value : ℕ → List (List ℕ) → Bool
 has_value n [] = false

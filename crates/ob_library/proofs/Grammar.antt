@@ -1,6 +1,6 @@
 -- Trees of the library are trees of the grammar: a test that computes says so of the constructors, names and constants
 -- that the library has.
-use Rattle.std.proofs.Common.{◌≡◌, ℕ, zero, suc, List, [], ◌∷◌, length, Bool, true, false, not, ◌&&◌, Option, Some, None, refl}
+use Rattle.std.proofs.Common.{◌≡◌, ℕ, zero, suc, ◌≤◌, List, [], ◌∷◌, length, Bool, true, false, not, ◌&&◌, Option, Some, None, refl}
 use Rattle.std.specs.Prelude.{nat_lt, nat_le, IsTrue}
 use Rattle.std.specs.List.{AllByRecursion}
 use Rattle.std.proofs.lemmas.Bool.{leb-true, ltb-true, and_parts, not-true, false≢true}
@@ -9,8 +9,8 @@ use Rattle.ob_tree.specs.Trees.{Infix, ExprTree, ExprTrees, TypeTree, SpecTree, 
 use Rattle.ob_tree.specs.Programs.{LocalTree, StartTree, StmtTree, BlockTrees, ParamTree, ParamsTree, ItemTree}
 use Rattle.ob_tree.specs.Integers.{is_integer}
 use Rattle.ob_tree.specs.Levels.{assign_level, cond_level, or_level, cast_level, postfix_level, binary_level, is_assign, IsInfix, left_level, right_level, level_of}
-use Rattle.ob_tree.specs.Valid.{greatest_source, ValidName, ValidTag, Valid, ValidArguments, ValidType, ValidSpec, ValidDims, ValidOpenDims, ValidObj}
-use Rattle.ob_tree.specs.ProgramValid.{ends_in_if, HasTag, ValidOption, ValidNames, ValidLocal, ValidStart, ValidStmt, ValidBlock, is_void_alone, ValidParam, ValidParams, AreNamed, IsBlock, ValidItem}
+use Rattle.ob_tree.specs.Valid.{greatest_source, ValidName, ValidTag, Valid, ValidArguments, ValidType, ValidSpec, ValidDims, ValidOpenDims}
+use Rattle.ob_tree.specs.ProgramValid.{ends_in_if, HasTag, ValidOption, ValidNames, ValidLocal, ValidStart, ValidStmt, ValidBlock, is_void_alone, ValidParam, ValidParams, AreNamed, ValidItem}
 use Rattle.ob_library.proofs.Constants.{number_fits, number_spelled, strings_fit, strings_spelled}
 
 three : (x y z : Bool) → (x && (y && z)) ≡ true → (x ≡ true) × (y ≡ true) × (z ≡ true)

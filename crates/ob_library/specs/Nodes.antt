@@ -1,5 +1,5 @@
 -- The nodes of the library's trees: every place is the greatest of a token's places, every line 0.
-use Rattle.std.specs.Prelude.{ℕ, ℤ, pos, List, [], ◌∷◌, Bool, false, Some, None}
+use Rattle.std.specs.Prelude.{ℕ, ℤ, pos, List, [], ◌∷◌, false, Some}
 use Rattle.ob_words.specs.declared.types.IntType.TheVariants as int
 use Rattle.ob_tree.specs.declared.tokens.Keyword.{Keyword}
 use Rattle.ob_tree.specs.declared.tokens.Keyword.TheVariants as word

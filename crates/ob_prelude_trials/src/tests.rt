@@ -24,7 +24,7 @@ const TEXTS: [&str; 11] = [
 ];
 
 /// Programs, each with the numbers of the texts that it is given.
-const ROWS: [(&str, &[usize]); 22] = [
+const ROWS: [(&str, &[usize]); 26] = [
     ("int main(void){return 0;}", &[]),
     ("int main(void){return strlen(\"a\");}", &[0]),
     ("char *f(char *d){return strcpy(d,d);}", &[1]),
@@ -58,6 +58,13 @@ const ROWS: [(&str, &[usize]); 22] = [
     ("int a[]={1,{atoi(\"2\")}};", &[7]),
     ("int f(int a[strlen(\"b\")]);", &[0]),
     ("int main(void){return sizeof(char[strlen(\"a\")]);}", &[0]),
+    ("int main(void){return sizeof strlen(\"a\");}", &[0]),
+    ("struct s{char a[sizeof(atoi(\"1\"))];}x;", &[7]),
+    (
+        "static int puts(char *s){return 1;}int main(void){return puts(\"a\");}",
+        &[],
+    ),
+    ("int puts;int main(void){return puts(\"a\");}", &[6]),
     (
         "int main(void){puts(strcat(0,0));return (atoi(\"1\")?strlen:0)+__print_d(strcmp(0,0));}",
         &[2, 3, 6, 7, 8, 9],
