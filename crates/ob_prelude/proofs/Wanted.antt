@@ -1,5 +1,5 @@
 -- Which functions are appended: those that the program asks for, and `__print_u` also where `__print_d` is.
-use Rattle.std.proofs.Common.{◌≡◌, ◌≢◌, ℕ, List, [], ◌∷◌, ◌++◌, Bool, false, ◌||◌, ◌&&◌, map, refl, ap, ◌∙◌}
+use Rattle.std.proofs.Common.{◌≡◌, ◌≢◌, List, [], ◌∷◌, ◌++◌, Bool, false, ◌||◌, ◌&&◌, map, refl, ap, ◌∙◌}
 use Rattle.std.specs.Prelude.{not, codes}
 use Rattle.ob_tree.specs.declared.programs.Item.{Item}
 use Rattle.ob_tree.specs.Programs.{ProgramTree}
@@ -10,7 +10,7 @@ use Rattle.ob_library.specs.Library.{name_of, tree_of}
 use Rattle.ob_prelude.specs.Calls.{program_calls, program_defines}
 use Rattle.ob_prelude.specs.Completion.{wanted_within, wanted, called_alone}
 
-or-false : (b : Bool) → (b || false) ≡ b
+pub or-false : (b : Bool) → (b || false) ≡ b
 or-false false = refl
 or-false Bool.true = refl
 

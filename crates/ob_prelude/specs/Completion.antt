@@ -1,5 +1,5 @@
 -- The program with the library functions that it needs.
-use Rattle.std.specs.Prelude.{ℕ, zero, suc, List, [], ◌∷◌, ◌++◌, Bool, true, false, not, ◌&&◌, ◌||◌, if◌then◌else◌}
+use Rattle.std.specs.Prelude.{ℕ, zero, suc, List, [], ◌∷◌, ◌++◌, Bool, false, not, ◌&&◌, ◌||◌, if◌then◌else◌}
 use Rattle.std.specs.List.{list_any, flat_map}
 use Rattle.ob_tree.specs.Programs.{ItemTree, ProgramTree}
 use Rattle.ob_library.specs.declared.library.LibraryFunction.{LibraryFunction}

@@ -1,4 +1,4 @@
-use Rattle.std.proofs.Common.{rules, ◌≡◌, Bool, ap, sym, subst, ◌∙◌}
+use Rattle.std.proofs.Common.{rules, ◌≡◌, ap, sym, ◌∙◌}
 use Rattle.std.specs.List.{list_any}
 use Rattle.ob_tree.specs.ProgramView.{param_tree, params_tree}
 use Rattle.ob_prelude.specs.Calls.{param_calls, params_call}
