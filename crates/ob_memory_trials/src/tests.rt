@@ -1,6 +1,14 @@
 //! Checked memory, a table a subject. Objects of the first function: static ones from 1, then its variables, of which local
 //! objects have the ordinals from 10 on; with one static object the first local one has number 12, and the first of the heap 42.
 
+mod bounded;
+mod edges;
+mod frames;
+mod granules;
+mod heap;
+mod pointers;
+mod sizes;
+
 use crate::outcome::outcome;
 use std::alloc::Global;
 use std::process::Abort;
@@ -17,11 +25,3 @@ pub fn agree(rt: &impl Abort, alloc: Global, rows: &[Row]) -> Result<(), Fail> {
     }
     Ok(())
 }
-
-mod bounded;
-mod edges;
-mod frames;
-mod granules;
-mod heap;
-mod pointers;
-mod sizes;

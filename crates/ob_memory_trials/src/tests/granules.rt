@@ -4,11 +4,21 @@ use crate::tests::{Row, agree};
 use std::test::Fail;
 
 // Granules: a neighbour, a pointer under a number, and the bytes of the last granule past the size.
-const GRANULES: [Row; 18] = [
+const GRANULES: [Row; 20] = [
     (
         "",
         "object 2 ; object 2 ; static 2 1 ; static 3 2 ; set 4 66 ; store char 4 3 5 ; set 6 16 ; set 7 88 ; store char 7 2 6 ; load char 8 3 5 ; exit 4 ;",
         "ends 2=4096 3=4112 4=66 6=16 7=88 8=66 | 7 store 1 16 1",
+    ),
+    (
+        "boundless",
+        "object 2 ; object 2 ; static 2 1 ; static 3 2 ; set 4 66 ; store char 4 3 5 ; set 6 16 ; set 7 88 ; store char 7 2 6 ; load char 8 3 5 ; exit 4 ;",
+        "ends 2=4096 3=4112 4=66 6=16 7=88 8=66 | 7 store 1 16 1",
+    ),
+    (
+        "boundless",
+        "set 3 8 ; malloc 2 3 ; malloc 4 3 ; set 5 16 ; set 6 88 ; store char 6 2 5 ; load char 7 4 8 ; load char 8 2 5 ; exit 3 ;",
+        "ends 2=33554432 3=8 4=33554448 5=16 6=88 8=88 | 6 store 41 16 1 | 8 load 41 16 1",
     ),
     (
         "",
