@@ -1,0 +1,2 @@
+//! Code from typed trees.
+#![tactic(auto)]
