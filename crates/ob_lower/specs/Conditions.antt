@@ -43,13 +43,13 @@ pub record Ending : Type 0 where
 
 -- a loop that never goes on again tests the zero word
 abbrev pub ending_always : Bool → ℕ → ℤ → Instr
-ending_always true zero by = instr.Jump by
-ending_always false zero by = instr.JumpNonzero zero by
+ending_always true null by = instr.Jump by
+ending_always false null by = instr.JumpNonzero null by
 
 abbrev pub ending : ℕ → Condition → Ending
-ending zero (tested truth o) = record { code = o.code; jump = jump_if truth o.word }
-ending zero (decided code) = record { code = code false 1; jump = λ by. instr.Jump by }
-ending zero (always truth) = record { code = []; jump = ending_always truth zero }
+ending null (tested truth o) = record { code = o.code; jump = jump_if truth o.word }
+ending null (decided code) = record { code = code false 1; jump = λ by. instr.Jump by }
+ending null (always truth) = record { code = []; jump = ending_always truth null }
 
 -- ---- `&&`, which its left side decides where it is false, and `||`, where it is true (C99 6.5.13, 6.5.14)
 
@@ -85,7 +85,7 @@ choice_code decides left right right_code dropped d = left_before decides left (
 abbrev pub against_zero : Relation → Bool → (ℕ → Condition) → (ℕ → Condition) → ℕ → Condition
 against_zero Eq true left other d = negated (left d)
 against_zero Ne true left other d = left d
-against_zero _ zero left other d = other d
+against_zero _ is_zero left other d = other d
 
 -- pointers that differ aren't the same
 abbrev pub by_sameness : Relation → (ℕ → Operand) → (ℕ → Operand) → ℕ → Condition
@@ -100,4 +100,4 @@ known_or None other d = other d
 -- ---- `?:`
 
 abbrev pub either_way : Condition → List Instr → List Instr → List Instr
-either_way test yes other = branch test false (length yes + 1) ++ yes ++ skip (length other) ∷ other
+either_way test first other = branch test false (length first + 1) ++ first ++ skip (length other) ∷ other

@@ -9,3 +9,8 @@ pub mod Conditions
 pub mod Stores
 pub mod Calls
 pub mod Expressions
+pub mod Initialisers
+pub mod Statements
+pub mod Functions
+pub mod Names
+pub mod Programs

@@ -45,9 +45,9 @@ abbrev pub same : Pair → ℕ → Operand
 same p d = record { code = p.code ++ instr.Same d p.left p.right ∷ []; word = d }
 
 abbrev pub compare_pointers : Relation → ℕ → Pair → Want → ℕ → List Instr
-compare_pointers Eq zero p want d = operator want d p (λ t x y. instr.Same t x y)
-compare_pointers Ne zero p want d = finish want d (same p d).code (λ t. instr.Same t d zero)
-compare_pointers r zero p want d = operator want d p (λ t x y. instr.Order r t x y)
+compare_pointers Eq null p want d = operator want d p (λ t x y. instr.Same t x y)
+compare_pointers Ne null p want d = finish want d (same p d).code (λ t. instr.Same t d null)
+compare_pointers r null p want d = operator want d p (λ t x y. instr.Order r t x y)
 
 -- ---- constants
 
@@ -58,8 +58,8 @@ constant_or None other want d = other want d
 
 -- 0 and null stand in the zero word
 abbrev pub zero_or : Bool → ℕ → (ℕ → Operand) → ℕ → Operand
-zero_or true zero other d = in_word zero
-zero_or false zero other d = other d
+zero_or true word other d = in_word word
+zero_or false word other d = other d
 
 -- a conversion that does nothing, and another one
 abbrev pub needless_or : Bool → (needless other : ℕ → Operand) → ℕ → Operand

@@ -1,2 +1,4 @@
 //! Code from typed trees.
 #![tactic(auto)]
+
+mod laws;
