@@ -1,6 +1,6 @@
 -- Calls (C99 6.5.2.2). The arguments stand in free words one after another, and the result comes where it is wanted. A function without
 -- expressions gives what is in its word 1, and the call of one makes 0 of it.
-use Rattle.std.specs.Prelude.{ℕ, zero, suc, ℤ, pos, List, [], ◌∷◌, ◌++◌, slice_index_or}
+use Rattle.std.specs.Prelude.{ℕ, zero, suc, pos, List, [], ◌∷◌, ◌++◌, slice_index_or}
 use Rattle.ob_words.specs.declared.types.IntType.TheVariants.{Char, Int, ULong}
 use Rattle.ob_typed.specs.declared.names.Builtin.{Builtin}
 use Rattle.ob_typed.specs.declared.names.Builtin.TheVariants as builtin

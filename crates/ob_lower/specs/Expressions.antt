@@ -1,7 +1,7 @@
 -- The code of an expression (C99 6.5), in which the words from d on are free. It follows the tree: first the code of the operands, in
 -- the order of their evaluation, and then what the node does. It writes free words, the words of the variables that the expression
 -- assigns, and the word where the value is wanted, which the last instruction on each way writes.
-use Rattle.std.specs.Prelude.{ℕ, ◌+◌, Bool, true, false, pos, List, [], ◌∷◌, ◌++◌, Option, Some, None}
+use Rattle.std.specs.Prelude.{ℕ, ◌+◌, Bool, true, false, pos, List, [], ◌++◌}
 use Rattle.ob_words.specs.declared.types.IntType.TheVariants.{Long, ULong}
 use Rattle.ob_typed.specs.declared.names.Builtin.{Builtin}
 use Rattle.ob_typed.specs.TypedTree.{TypedExpr, TypedExprs, TypedLean, TypedNode}

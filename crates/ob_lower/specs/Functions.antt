@@ -1,6 +1,6 @@
 -- Functions (C99 6.9.1): the code of each, and its row in the image. The code stores each parameter that has bytes, runs the body, and
 -- returns 0 at its end. The rows of locals are those of the variables that have bytes, in order, each after the block before.
-use Rattle.std.specs.Prelude.{ℕ, zero, suc, ◌+◌, max, pos, List, [], ◌∷◌, ◌++◌, length}
+use Rattle.std.specs.Prelude.{ℕ, zero, suc, ◌+◌, max, List, [], ◌∷◌, ◌++◌, length}
 use Rattle.ob_words.specs.Words.{block}
 use Rattle.ob_tree.specs.Sizes.{allowance, size}
 use Rattle.ob_tree.specs.Types.{PlainType, PlainStructs}

@@ -1,10 +1,10 @@
 -- The code of the initialiser of an automatic object (C99 6.7.8). A plain variable gets the value in its word. An array or a structure
 -- becomes zero bytes first, and then each value is stored at its offset. What nothing names is only evaluated.
-use Rattle.std.specs.Prelude.{ℕ, zero, ◌+◌, Bool, true, false, ◌==◌, ℤ, pos, List, [], ◌∷◌, ◌++◌, slice_index_or}
+use Rattle.std.specs.Prelude.{ℕ, ◌+◌, pos, List, [], ◌∷◌, ◌++◌, slice_index_or}
 use Rattle.ob_model.specs.declared.values.LoadKind.{LoadKind}
 use Rattle.ob_tree.specs.Types.{PlainType}
 use Rattle.ob_tree.specs.Types.PlainType.{Void, Int, Pointer, Array, Struct}
-use Rattle.ob_typed.specs.TypedTree.{TypedExpr, TypedInit, TypedInits, TypedLean}
+use Rattle.ob_typed.specs.TypedTree.{TypedInit, TypedInits, TypedLean}
 use Rattle.ob_typed.specs.TypedTree.TypedExpr.{Typed}
 use Rattle.ob_typed.specs.TypedTree.TypedPlace.{Place}
 use Rattle.ob_typed.specs.TypedTree.{TypedInit as init, TypedInits as inits, TypedLean as at}

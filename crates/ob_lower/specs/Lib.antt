@@ -14,3 +14,4 @@ pub mod Statements
 pub mod Functions
 pub mod Names
 pub mod Programs
+pub mod CodeExamples

@@ -1,6 +1,6 @@
 -- The names of variables: one row for each static object that has a name, then one for each variable of each function.
-use Rattle.std.specs.Prelude.{ℕ, zero, ◌+◌, List, [], ◌∷◌, ◌++◌}
-use Rattle.ob_tree.specs.Types.{PlainType, PlainStructs}
+use Rattle.std.specs.Prelude.{ℕ, ◌+◌, List, [], ◌∷◌, ◌++◌}
+use Rattle.ob_tree.specs.Types.{PlainType}
 use Rattle.ob_tree.specs.Types.PlainType.{Void, Int, Pointer, Array, Struct}
 use Rattle.ob_typed.specs.declared.names.VarName.{VarName}
 use Rattle.ob_typed.specs.TypedTree.{TypedFunction, TypedObject}

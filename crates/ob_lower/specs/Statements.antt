@@ -1,6 +1,6 @@
 -- The code of a statement (C99 6.8). `break` goes over the next `out` instructions after the statement, and `continue` over the next `on`.
 -- A Tick takes the step of each statement and of each turn of a loop. The only jumps back are those of loops, to the Tick of a turn.
-use Rattle.std.specs.Prelude.{ℕ, ◌+◌, Bool, true, false, List, [], ◌∷◌, ◌++◌, length, Option, Some, None}
+use Rattle.std.specs.Prelude.{ℕ, ◌+◌, true, false, List, [], ◌∷◌, ◌++◌, length, Option, Some, None}
 use Rattle.ob_typed.specs.TypedTree.{TypedExpr, TypedStmt, TypedStmts}
 use Rattle.ob_typed.specs.TypedTree.{TypedStmt as stmt, TypedStmts as stmts}
 use Rattle.ob_code.specs.declared.instructions.Instr.{Instr}

@@ -7,16 +7,14 @@ use Rattle.ob_words.specs.Operators.{shifts}
 use Rattle.ob_words.specs.Types.{has_all}
 use Rattle.ob_model.specs.declared.values.LoadKind.{LoadKind}
 use Rattle.ob_model.specs.declared.values.LoadKind.TheVariants.{Num, Ptr}
-use Rattle.ob_tree.specs.Types.{PlainType}
 use Rattle.ob_code.specs.declared.instructions.Instr.{Instr}
 use Rattle.ob_code.specs.declared.instructions.Instr.TheVariants as instr
 use Rattle.ob_meaning.specs.Pointers.{stride}
 use Rattle.ob_meaning.specs.Scalars.{Scalar}
-use Rattle.ob_meaning.specs.Setup.{kind_of, number_type}
 use Rattle.ob_lower.specs.Homes.{Context}
 use Rattle.ob_lower.specs.Instructions.{Operand, Want, into, dropped, finish, free_after, is_wanted, stands}
 use Rattle.ob_lower.specs.Numbers.{Reading, whole, low}
-use Rattle.ob_lower.specs.Places.{Based, near_or_none, number_in, offset_in, signed}
+use Rattle.ob_lower.specs.Places.{Based, near_or_none, number_in, offset_in}
 
 -- ---- accesses
 
