@@ -12,7 +12,7 @@ use Rattle.ob_typed.specs.TypedTree.{TypedExpr, TypedStmt}
 use Rattle.ob_typed.specs.TypedTree.TypedExpr.{Typed}
 use Rattle.ob_typed.specs.TypedTree.{TypedNode as node, TypedLean as at, TypedStmt as stmt, TypedInit as init}
 use Rattle.ob_code.specs.declared.instructions.Instr.{Instr}
-use Rattle.ob_code.specs.declared.instructions.Instr.TheVariants.{Tick, Set, Move, Binary, Compare, Jump, JumpZero, JumpNonzero, Call, Return, Local, Wipe, Load, Store, Slide, SlideBy, PutChar}
+use Rattle.ob_code.specs.declared.instructions.Instr.TheVariants.{Tick, Set, Move, Binary, Compare, Jump, JumpZero, JumpNonzero, Call, Return, Static, Local, Wipe, Load, Store, Slide, SlideBy, PutChar}
 use Rattle.ob_meaning.specs.ControlExamples.{call_of, int_item, items_of, two_ints}
 use Rattle.ob_meaning.specs.Examples.{return_zero}
 use Rattle.ob_meaning.specs.ExampleTrees.{int, int_type, main_of, number, place, plus, put, read, set, statements_of}
@@ -101,3 +101,17 @@ CodeOfCopy =
     ≡ Tick ∷ Local 3 (pos 0) ∷ Local 4 (pos 1)
     ∷ Load (Num type.Int) 1 5 4 2 ∷ Store (Num type.Int) 1 5 3 2
     ∷ Set 5 (pos 4) ∷ Load (Num type.Int) 1 5 4 5 ∷ Set 6 (pos 4) ∷ Store (Num type.Int) 1 5 3 6 ∷ []
+
+-- for (i = 0; i < n; i = i + 1) s = s + a[i & 63]; with a static array a: twelve instructions a turn
+abbrev pub masked_element : TypedExpr
+masked_element = read int_type (at.Slide (at.Static 0) 4 false false (int (node.Arith op.And type.Int i (number 63))))
+
+abbrev pub CodeOfSum : Type 0
+CodeOfSum =
+    code_in_main [] three_ints
+    (stmt.For (statements_of (set int_type (at.Local 0) (number 0) ∷ [])) (Some i_below_n)
+    (Some (Typed 1 int_type (node.Assign (place int_type (at.Local 0)) (plus i (number 1)))))
+    (set int_type (at.Local 2) (plus s masked_element)))
+    ≡ Tick ∷ Set 3 (pos 0) ∷ Jump (pos 11) ∷ Tick ∷ Tick ∷ Static 6 (pos 1) ∷ Set 7 (pos 63) ∷ Binary type.Int op.And 7 3 7 ∷ Slide 7 2 7 (pos 4)
+    ∷ Load (Num type.Int) 1 6 6 7 ∷ Binary type.Int op.Add 5 5 6 ∷ Set 6 (pos 1) ∷ Binary type.Int op.Add 3 3 6
+    ∷ Compare type.Int relation.Lt 6 3 4 ∷ JumpNonzero 6 (negsuc 10) ∷ []

@@ -1,12 +1,14 @@
 -- Runs of an image beside the meaning of its program. The stack has 1,024 bytes here, so that a run is short to compute.
-use Rattle.std.specs.Prelude.{◌≡◌, ℕ, List, [], ◌∷◌}
+use Rattle.std.specs.Prelude.{◌≡◌, ℕ, pos, List, [], ◌∷◌}
+use Rattle.ob_model.specs.declared.endings.Ending.TheVariants.{Ended}
 use Rattle.ob_model.specs.declared.settings.Mode.{Mode}
 use Rattle.ob_model.specs.declared.settings.Profile.{Profile}
 use Rattle.ob_model.specs.declared.settings.RunSettings.{RunSettings}
-use Rattle.ob_model.specs.Endings.{InputEnd, Outcome, closed}
+use Rattle.ob_model.specs.Endings.{InputEnd, Outcome, closed, plain}
 use Rattle.ob_typed.specs.TypedTree.{TypedProgram}
 use Rattle.ob_code.specs.declared.image.Image.{Image}
 use Rattle.ob_code.specs.Start.{laid_out, outcome_of, run_from}
+use Rattle.ob_meaning.specs.ControlExamples.{factorial}
 use Rattle.ob_meaning.specs.Runs.{meaning}
 use Rattle.ob_meaning.specs.Setup.{rule_of}
 use Rattle.ob_lower.specs.Programs.{code_of}
@@ -27,3 +29,10 @@ AgreesOn settings input input_end steps t =
 
 abbrev pub Agrees : Mode → Profile → TypedProgram → Type 0
 Agrees mode profile t = AgreesOn (settings_of mode profile) [] closed 60 t
+
+-- a function that calls itself gives the product of four numbers, as the program means: its run is told apart from its meaning's, which
+-- ob_meaning tells
+abbrev pub FactorialIsComputed : Mode → Profile → Type 0
+FactorialIsComputed mode profile =
+    image_run (code_of factorial) (settings_of mode profile) [] closed 60
+    ≡ record { finish = plain (Ended (pos 0)); output = 65 ∷ []; events = []; cycle_place = 0 }

@@ -6,7 +6,7 @@ ghost use Rattle.ob_model.specs.declared.settings.Profile.TheVariants.{One, Two}
 ghost use Rattle.ob_meaning.specs.Examples as basic;
 ghost use Rattle.ob_meaning.specs.ControlExamples as control;
 ghost use Rattle.ob_meaning.specs.RuleExamples as rules;
-ghost use Rattle.ob_lower_trials.specs.Runs.{Agrees};
+ghost use Rattle.ob_lower_trials.specs.Runs.{Agrees, FactorialIsComputed};
 
 /// Runs of code beside the meaning: programs that read and write past their objects.
 pub fn law_overruns()
@@ -78,6 +78,8 @@ pub fn law_control()
     ensures choices_boundless { Agrees Boundless Two control.choices }
     ensures exiting { Agrees Oblivious One control.exiting }
     ensures exiting_boundless { Agrees Boundless Two control.exiting }
+    ensures factorial { FactorialIsComputed Oblivious One }
+    ensures factorial_boundless { FactorialIsComputed Boundless Two }
     ensures endings { Agrees Oblivious One control.endings }
     ensures endings_boundless { Agrees Boundless Two control.endings }
 {}

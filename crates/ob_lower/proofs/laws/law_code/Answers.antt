@@ -33,3 +33,7 @@ returns-clause-array c = refl
 pub returns-clause-copy : goal.returns-clause-copy
 unfolding convert residue
 returns-clause-copy c = refl
+
+pub returns-clause-sum : goal.returns-clause-sum
+unfolding convert residue
+returns-clause-sum c = refl

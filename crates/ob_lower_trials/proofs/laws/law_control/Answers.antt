@@ -42,3 +42,11 @@ returns-clause-endings c = refl
 pub returns-clause-endings_boundless : goal.returns-clause-endings_boundless
 unfolding convert residue from_bytes low_bytes
 returns-clause-endings_boundless c = refl
+
+pub returns-clause-factorial : goal.returns-clause-factorial
+unfolding convert residue from_bytes low_bytes
+returns-clause-factorial c = refl
+
+pub returns-clause-factorial_boundless : goal.returns-clause-factorial_boundless
+unfolding convert residue from_bytes low_bytes
+returns-clause-factorial_boundless c = refl
