@@ -6,6 +6,7 @@ ghost use Rattle.ob_model.specs.declared.settings.Profile.TheVariants.{One, Two}
 ghost use Rattle.ob_meaning.specs.Examples as basic;
 ghost use Rattle.ob_meaning.specs.ControlExamples as control;
 ghost use Rattle.ob_meaning.specs.RuleExamples as rules;
+ghost use Rattle.ob_lower_trials.specs.Directed as directed;
 ghost use Rattle.ob_lower_trials.specs.Runs.{Agrees, FactorialIsComputed};
 
 /// Runs of code beside the meaning: programs that read and write past their objects.
@@ -122,4 +123,21 @@ pub fn law_rules()
     ensures product_boundless { Agrees Boundless Two rules.product }
     ensures inner_free { Agrees Oblivious One rules.inner_free }
     ensures inner_free_boundless { Agrees Boundless Two rules.inner_free }
+{}
+
+/// Programs about places where code goes wrong easily.
+pub fn law_directed()
+    ensures step_into_itself { Agrees Oblivious One directed.step_into_itself }
+    ensures sum_into_operand { Agrees Oblivious One directed.sum_into_operand }
+    ensures changed_operand { Agrees Oblivious One directed.changed_operand }
+    ensures changed_variable { Agrees Oblivious One directed.changed_variable }
+    ensures changed_index { Agrees Oblivious One directed.changed_index }
+    ensures narrow { Agrees Oblivious One directed.narrow }
+    ensures widened { Agrees Oblivious One directed.widened }
+    ensures truths { Agrees Oblivious One directed.truths }
+    ensures breaks { Agrees Oblivious One directed.breaks }
+    ensures counted_down { Agrees Oblivious One directed.counted_down }
+    ensures exposed_parameter { Agrees Oblivious One directed.exposed_parameter }
+    ensures unnamed { Agrees Oblivious One directed.unnamed }
+    ensures other_type { Agrees Oblivious One directed.other_type }
 {}

@@ -2,7 +2,8 @@
 #![tactic(auto)]
 
 pub use laws::{
-    law_assignments, law_control, law_ends, law_outside, law_overruns, law_pointers, law_rules,
+    law_assignments, law_control, law_directed, law_ends, law_outside, law_overruns, law_pointers,
+    law_rules,
 };
 
 mod laws;
