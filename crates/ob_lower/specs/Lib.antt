@@ -1,0 +1,17 @@
+pub mod Instructions
+pub mod Variables
+pub mod Homes
+pub mod Assigned
+pub mod Numbers
+pub mod Operands
+pub mod Places
+pub mod Conditions
+pub mod Stores
+pub mod Calls
+pub mod Expressions
+pub mod Initialisers
+pub mod Statements
+pub mod Functions
+pub mod Names
+pub mod Programs
+pub mod CodeExamples
