@@ -1,0 +1,2 @@
+pub mod BodyView
+pub mod Pieces
