@@ -1,0 +1,5 @@
+pub mod Values
+pub mod StmtRows
+pub mod BlockRows
+pub mod Turns
+pub mod Arms

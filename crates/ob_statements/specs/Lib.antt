@@ -1,0 +1,2 @@
+pub mod BlockTrees
+pub mod Parts
