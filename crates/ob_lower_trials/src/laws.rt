@@ -132,6 +132,7 @@ pub fn law_directed()
     ensures changed_operand { Agrees Oblivious One directed.changed_operand }
     ensures changed_variable { Agrees Oblivious One directed.changed_variable }
     ensures changed_index { Agrees Oblivious One directed.changed_index }
+    ensures numbers_first { Agrees Oblivious One directed.numbers_first }
     ensures narrow { Agrees Oblivious One directed.narrow }
     ensures widened { Agrees Oblivious One directed.widened }
     ensures truths { Agrees Oblivious One directed.truths }
