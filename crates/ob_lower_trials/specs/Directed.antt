@@ -1,6 +1,6 @@
 -- Small programs, each about a place where code goes wrong easily: an operand that changes while it waits, a conversion that seems
 -- needless, a jump that goes one too far. Each is given as C; the function's last expression is what `main` returns.
-use Rattle.std.specs.Prelude.{ℕ, false, true, pos, negsuc, List, [], ◌∷◌, Some, None}
+use Rattle.std.specs.Prelude.{ℕ, false, true, pos, negsuc, List, [], ◌∷◌, Some}
 use Rattle.ob_words.specs.declared.types.BinOp.TheVariants as op
 use Rattle.ob_words.specs.declared.types.IntType.TheVariants as type
 use Rattle.ob_words.specs.declared.types.Relation.TheVariants as relation

@@ -7,6 +7,7 @@ ghost use Rattle.ob_meaning.specs.Examples as basic;
 ghost use Rattle.ob_meaning.specs.ControlExamples as control;
 ghost use Rattle.ob_meaning.specs.RuleExamples as rules;
 ghost use Rattle.ob_lower_trials.specs.Directed as directed;
+ghost use Rattle.ob_lower_trials.specs.Waiting as waiting;
 ghost use Rattle.ob_lower_trials.specs.Runs.{Agrees, FactorialIsComputed};
 
 /// Runs of code beside the meaning: programs that read and write past their objects.
@@ -141,4 +142,17 @@ pub fn law_directed()
     ensures exposed_parameter { Agrees Oblivious One directed.exposed_parameter }
     ensures unnamed { Agrees Oblivious One directed.unnamed }
     ensures other_type { Agrees Oblivious One directed.other_type }
+{}
+
+/// Programs about what waits while the rest of an expression is evaluated.
+pub fn law_waiting()
+    ensures changed_base { Agrees Boundless Two waiting.changed_base }
+    ensures changed_number { Agrees Boundless Two waiting.changed_number }
+    ensures memory_steps { Agrees Boundless Two waiting.memory_steps }
+    ensures narrow_memory { Agrees Boundless Two waiting.narrow_memory }
+    ensures pointers_in_tests { Agrees Boundless Two waiting.pointers_in_tests }
+    ensures copied_elements { Agrees Boundless Two waiting.copied_elements }
+    ensures far_member { Agrees Boundless Two waiting.far_member }
+    ensures static_steps { Agrees Boundless Two waiting.static_steps }
+    ensures widths { Agrees Boundless Two waiting.widths }
 {}
