@@ -1,7 +1,7 @@
 -- The code of small statements, written out by hand. In a function without parameters the zero word is 2 and the words of its plain
 -- variables come after it: here an `int` i has word 3, an `int` n word 4 and an `int` s word 5, and words are free from 6 on. A jump
 -- says how far it goes from itself on.
-use Rattle.std.specs.Prelude.{◌≡◌, false, pos, negsuc, List, [], ◌∷◌, Some}
+use Rattle.std.specs.Prelude.{◌≡◌, true, false, pos, negsuc, List, [], ◌∷◌, Some}
 use Rattle.ob_words.specs.declared.types.BinOp.TheVariants as op
 use Rattle.ob_words.specs.declared.types.IntType.TheVariants as type
 use Rattle.ob_words.specs.declared.types.Relation.TheVariants as relation
@@ -48,6 +48,13 @@ CodeOfWhile =
     code_in_main [] three_ints (stmt.While i_below_n add_i)
     ≡ Tick ∷ Jump (pos 4) ∷ Tick ∷ Tick ∷ Binary type.Int op.Add 5 5 3 ∷ Compare type.Int relation.Lt 6 3 4 ∷ JumpNonzero 6 (negsuc 3) ∷ []
 
+-- while (n--); whose test is the older value: six instructions a turn
+abbrev pub CodeOfCountdown : Type 0
+CodeOfCountdown =
+    code_in_main [] three_ints
+    (stmt.While (int (node.Update op.Sub type.Int true (place int_type (at.Local 1)) (number 1))) stmt.Empty)
+    ≡ Tick ∷ Jump (pos 3) ∷ Tick ∷ Tick ∷ Move 6 4 ∷ Set 7 (pos 1) ∷ Binary type.Int op.Sub 4 6 7 ∷ JumpNonzero 6 (negsuc 4) ∷ []
+
 -- main with putchar(72); return 0;
 abbrev pub CodeOfHello : Type 0
 CodeOfHello =
@@ -74,6 +81,23 @@ abbrev pub CodeOfElement : Type 0
 CodeOfElement =
     code_in_main [] (int_type ∷ int_type ∷ int_type ∷ four_ints ∷ []) (set int_type (at.Slide (at.Local 3) 4 false false i) n)
     ≡ Tick ∷ Local 6 (pos 0) ∷ Slide 7 2 3 (pos 4) ∷ Store (Num type.Int) 1 4 6 7 ∷ []
+
+-- 1[a] = n; whose displacement is known
+abbrev pub CodeOfConstantElement : Type 0
+CodeOfConstantElement =
+    code_in_main [] (int_type ∷ int_type ∷ int_type ∷ four_ints ∷ []) (set int_type (at.Slide (at.Local 3) 4 false true (number 1)) n)
+    ≡ Tick ∷ Local 6 (pos 0) ∷ Set 7 (pos 4) ∷ Store (Num type.Int) 1 4 6 7 ∷ []
+
+-- (i + 1)[(n + 1)[m]] = s; with a two-dimensional array m as the fourth variable: the base moves to the word after the displacement
+abbrev pub two_rows : PlainType
+two_rows = Array (Array int_type 2) 2
+
+abbrev pub CodeOfNumbersFirst : Type 0
+CodeOfNumbersFirst =
+    code_in_main [] (int_type ∷ int_type ∷ int_type ∷ two_rows ∷ [])
+    (set int_type (at.Slide (at.Slide (at.Local 3) 8 false true (plus n (number 1))) 4 false true (plus i (number 1))) s)
+    ≡ Tick ∷ Set 6 (pos 1) ∷ Binary type.Int op.Add 6 3 6 ∷ Set 7 (pos 1) ∷ Binary type.Int op.Add 7 4 7
+    ∷ Local 8 (pos 0) ∷ Slide 7 2 7 (pos 8) ∷ Slide 6 7 6 (pos 4) ∷ Move 7 8 ∷ Store (Num type.Int) 1 5 7 6 ∷ []
 
 -- for (int i = 0; i < n; i = i + 1) s = s + i;
 abbrev pub CodeOfFor : Type 0

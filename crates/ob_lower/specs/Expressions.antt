@@ -20,7 +20,7 @@ use Rattle.ob_lower.specs.Homes.{Context, local_row, variable_word}
 use Rattle.ob_lower.specs.Instructions.{Operand, Want, after, dropped, finish, in_free, in_word, into, number_code, stands}
 use Rattle.ob_lower.specs.Numbers.{Reading, constant, fits, is_needless, is_zero, low, whole}
 use Rattle.ob_lower.specs.Operands.{assigned, compare_pointers, constant_or, convert_code, hold, needless_or, operator, same, two, variable_or, zero_or}
-use Rattle.ob_lower.specs.Places.{Based, at_object, at_pointer, base_first, member, number_first, signed}
+use Rattle.ob_lower.specs.Places.{Based, at_object, at_pointer, base_first, comes_first, first_or, member, number_first, signed}
 use Rattle.ob_lower.specs.Stores.{assign_code, copies_code, distance, known_stride, load_code, moved_word, pointer_code, right_reading, stored_reading, update_memory, update_variable, updated_number, updated_word}
 
 -- two numbers are compared in the type of the left one, which the right one has too
@@ -133,8 +133,8 @@ abbrev mutual
   based c (at.Static n) rest d = at_object (λ t. instr.Static t (pos (n + 1))) d
   based c (at.Local v) rest d = at_object (λ t. instr.Local t (pos (local_row c v))) d
   based c (at.Value e) rest d = at_pointer (hold rest (code c e) (operand c e whole) d) d
-  based c (at.Slide lean scale minus false e) rest d =
-      base_first c (based c lean (either rest (assigns c e)) d) (constant e) minus scale (operand c e (low Long))
-  based c (at.Slide lean scale minus true e) rest d =
-      number_first c (hold (lean_assigns c lean) (code c e) (operand c e (low Long)) d) (based c lean rest) (signed minus scale) d
+  based c (at.Slide lean scale minus first e) rest d =
+      first_or (comes_first first (constant e))
+      (number_first c (hold (lean_assigns c lean) (code c e) (operand c e (low Long)) d) (based c lean rest) (signed minus scale))
+      (λ f. base_first c (based c lean (either rest (assigns c e)) f) (constant e) minus scale (operand c e (low Long))) d
   based c (at.Member lean offset) rest d = member (based c lean rest d) offset

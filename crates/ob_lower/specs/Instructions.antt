@@ -53,9 +53,12 @@ target dropped d = d
 abbrev pub finish : Want → ℕ → List Instr → (ℕ → Instr) → List Instr
 finish want d front last = front ++ last (target want d) ∷ []
 
--- the value stands in a word already
+-- the value stands in a word already, which may be the one where it is wanted
+abbrev pub move : (t w : ℕ) → List Instr
+move t w = if t == w then [] else instr.Move t w ∷ []
+
 abbrev pub stands : Want → List Instr → ℕ → List Instr
-stands (into t) front w = front ++ instr.Move t w ∷ []
+stands (into t) front w = front ++ move t w
 stands dropped front w = front
 
 -- a number; the machine takes it modulo 2 ^ 64

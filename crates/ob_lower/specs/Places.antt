@@ -1,6 +1,6 @@
 -- Where an expression's place is: a word with the pointer to its base, and the displacement from there, which is a known number or
 -- stands in a word of its own.
-use Rattle.std.specs.Prelude.{ℕ, zero, ◌+◌, ◌==◌, Bool, true, false, ℤ, pos, ◌+ℤ◌, neg_ℤ, List, [], ◌∷◌, ◌++◌, Option, Some, None, if◌then◌else◌}
+use Rattle.std.specs.Prelude.{ℕ, zero, ◌+◌, ◌==◌, Bool, true, false, nat_lt, ℤ, pos, ◌+ℤ◌, neg_ℤ, List, [], ◌∷◌, ◌++◌, Option, Some, None, if◌then◌else◌}
 use Rattle.std.specs.Ordering.{int_eq}
 use Rattle.ob_code.specs.declared.instructions.Instr.{Instr}
 use Rattle.ob_code.specs.declared.instructions.Instr.TheVariants as instr
@@ -80,14 +80,24 @@ slid_after c b (known k) o step =
     slid b (o.code ++ slide_code c (known k) step o.word b.free (free_after o b.free)) b.free (b.free + 1)
 slid_after c b (in_own w) o step = slid b (o.code ++ slide_code c (in_own w) step o.word w b.free) w b.free
 
+-- the displacement in word d and the base in the word after it, or in a variable's, and no word more: however deep places stand in
+-- each other, they leave two words
+abbrev pub base_in : ℕ → Based → Based
+base_in w b =
+    if b.base == w then record b { free = w + 1 }
+    else record b { code = b.code ++ instr.Move w b.base ∷ []; base = w; free = w + 1 }
+
+abbrev pub settled : ℕ → Based → Based
+settled d b = if nat_lt b.base d then record b { free = d + 1 } else base_in (d + 1) b
+
 -- by a number that was evaluated before the base, into the free word d or a variable's
 abbrev pub number_before : Operand → Based → Based
 number_before o b = record b { code = o.code ++ b.code }
 
 abbrev pub slid_before : Context → Operand → Based → ℤ → ℕ → Based
 slid_before c o b step d =
-    if o.word == d then slid (number_before o b) (slide_code c b.offset step o.word d b.free) d b.free
-    else slid (number_before o b) (slide_code c b.offset step o.word b.free b.free) b.free (b.free + 1)
+    if o.word == d then settled d (slid (number_before o b) (slide_code c b.offset step o.word d b.free) d b.free)
+    else slid_after c (number_before o b) b.offset (in_word o.word) step
 
 abbrev pub number_first : Context → Operand → (ℕ → Based) → ℤ → ℕ → Based
 number_first c o base step d = slid_before c o (base (free_after o d)) step d
@@ -103,6 +113,15 @@ known_step _ minus scale _ = None
 abbrev pub slid_to : Option ℤ → Based → (ℕ → Based) → Based
 slid_to None b other = other b.free
 slid_to (Some k) b other = record b { offset = known k }
+
+-- a constant needs no word before the base
+abbrev pub comes_first : (number_first : Bool) → Option ℤ → Bool
+comes_first true None = true
+comes_first _ n = false
+
+abbrev pub first_or : Bool → (number base : ℕ → Based) → ℕ → Based
+first_or true number base d = number d
+first_or false number base d = base d
 
 abbrev pub base_first : Context → Based → Option ℤ → (minus : Bool) → (scale : ℕ) → (ℕ → Operand) → Based
 base_first c b n minus scale operand =

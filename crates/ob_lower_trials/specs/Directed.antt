@@ -1,6 +1,6 @@
 -- Small programs, each about a place where code goes wrong easily: an operand that changes while it waits, a conversion that seems
 -- needless, a jump that goes one too far. Each is given as C; the function's last expression is what `main` returns.
-use Rattle.std.specs.Prelude.{ℕ, false, true, pos, negsuc, List, [], ◌∷◌, Some, None}
+use Rattle.std.specs.Prelude.{ℕ, false, true, pos, negsuc, List, [], ◌∷◌, Some}
 use Rattle.ob_words.specs.declared.types.BinOp.TheVariants as op
 use Rattle.ob_words.specs.declared.types.IntType.TheVariants as type
 use Rattle.ob_words.specs.declared.types.Relation.TheVariants as relation
@@ -60,6 +60,13 @@ changed_index =
     simple (int_type ∷ Array int_type 4 ∷ []) 16
     (start 0 0 ∷ set int_type (at.Slide (at.Local 1) 4 false false (local 0)) (assign 0 (number 3))
     ∷ give (plus (read int_type (at.Slide (at.Local 1) 4 false false (number 0))) (local 0)))
+
+-- int i = 0; int m[2][2]; (i++)[(i++)[m]] = i; return m[1][0] + i;
+abbrev pub numbers_first : TypedProgram
+numbers_first =
+    simple (int_type ∷ Array (Array int_type 2) 2 ∷ []) 20
+    (start 0 0 ∷ set int_type (at.Slide (at.Slide (at.Local 1) 8 false true (after_step 0)) 4 false true (after_step 0)) (local 0)
+    ∷ give (plus (read int_type (at.Slide (at.Slide (at.Local 1) 8 false false (number 1)) 4 false false (number 0))) (local 0)))
 
 -- char c = 100; int x; x = (c += 100); x = x + (c = 300); return x;
 abbrev pub narrow : TypedProgram

@@ -2,7 +2,9 @@
 use Rattle.std.specs.Prelude.{◌≡◌, ℕ, pos, List, [], ◌∷◌}
 use Rattle.ob_model.specs.declared.endings.Ending.TheVariants.{Ended}
 use Rattle.ob_model.specs.declared.settings.Mode.{Mode}
+use Rattle.ob_model.specs.declared.settings.Mode.TheVariants.{Boundless}
 use Rattle.ob_model.specs.declared.settings.Profile.{Profile}
+use Rattle.ob_model.specs.declared.settings.Profile.TheVariants.{Two}
 use Rattle.ob_model.specs.declared.settings.RunSettings.{RunSettings}
 use Rattle.ob_model.specs.Endings.{InputEnd, Outcome, closed, plain}
 use Rattle.ob_typed.specs.TypedTree.{TypedProgram}
@@ -36,3 +38,7 @@ abbrev pub FactorialIsComputed : Mode → Profile → Type 0
 FactorialIsComputed mode profile =
     image_run (code_of factorial) (settings_of mode profile) [] closed 60
     ≡ record { finish = plain (Ended (pos 0)); output = 65 ∷ []; events = []; cycle_place = 0 }
+
+-- the same with so many steps, of which none may be left before the end
+abbrev pub AgreesFor : ℕ → TypedProgram → Type 0
+AgreesFor steps t = AgreesOn (settings_of Boundless Two) [] closed steps t

@@ -1,5 +1,6 @@
 //! That the code of small programs does what the programs mean. Each law is the contract of a function that does nothing; the first
 //! clause of each program is about its run in oblivious mode under the first profile, the other about that in boundless mode under the second.
+//! What waits and what is stopped is shown in boundless mode under the second profile alone.
 
 ghost use Rattle.ob_model.specs.declared.settings.Mode.TheVariants.{Oblivious, Boundless};
 ghost use Rattle.ob_model.specs.declared.settings.Profile.TheVariants.{One, Two};
@@ -7,7 +8,8 @@ ghost use Rattle.ob_meaning.specs.Examples as basic;
 ghost use Rattle.ob_meaning.specs.ControlExamples as control;
 ghost use Rattle.ob_meaning.specs.RuleExamples as rules;
 ghost use Rattle.ob_lower_trials.specs.Directed as directed;
-ghost use Rattle.ob_lower_trials.specs.Runs.{Agrees, FactorialIsComputed};
+ghost use Rattle.ob_lower_trials.specs.Waiting as waiting;
+ghost use Rattle.ob_lower_trials.specs.Runs.{Agrees, AgreesFor, FactorialIsComputed};
 
 /// Runs of code beside the meaning: programs that read and write past their objects.
 pub fn law_overruns()
@@ -132,6 +134,7 @@ pub fn law_directed()
     ensures changed_operand { Agrees Oblivious One directed.changed_operand }
     ensures changed_variable { Agrees Oblivious One directed.changed_variable }
     ensures changed_index { Agrees Oblivious One directed.changed_index }
+    ensures numbers_first { Agrees Oblivious One directed.numbers_first }
     ensures narrow { Agrees Oblivious One directed.narrow }
     ensures widened { Agrees Oblivious One directed.widened }
     ensures truths { Agrees Oblivious One directed.truths }
@@ -140,4 +143,44 @@ pub fn law_directed()
     ensures exposed_parameter { Agrees Oblivious One directed.exposed_parameter }
     ensures unnamed { Agrees Oblivious One directed.unnamed }
     ensures other_type { Agrees Oblivious One directed.other_type }
+{}
+
+/// Programs about what waits while the rest of an expression is evaluated.
+pub fn law_waiting()
+    ensures changed_base { Agrees Boundless Two waiting.changed_base }
+    ensures changed_number { Agrees Boundless Two waiting.changed_number }
+    ensures memory_steps { Agrees Boundless Two waiting.memory_steps }
+    ensures narrow_memory { Agrees Boundless Two waiting.narrow_memory }
+    ensures pointers_in_tests { Agrees Boundless Two waiting.pointers_in_tests }
+    ensures copied_elements { Agrees Boundless Two waiting.copied_elements }
+    ensures far_member { Agrees Boundless Two waiting.far_member }
+    ensures static_steps { Agrees Boundless Two waiting.static_steps }
+    ensures widths { Agrees Boundless Two waiting.widths }
+{}
+
+/// Programs that are stopped after some steps: calls, a loop with `continue` and `break`, and tests that write.
+pub fn law_stopped()
+    ensures calls_0 { AgreesFor 0 directed.exposed_parameter }
+    ensures calls_1 { AgreesFor 1 directed.exposed_parameter }
+    ensures calls_2 { AgreesFor 2 directed.exposed_parameter }
+    ensures calls_3 { AgreesFor 3 directed.exposed_parameter }
+    ensures calls_4 { AgreesFor 4 directed.exposed_parameter }
+    ensures calls_5 { AgreesFor 5 directed.exposed_parameter }
+    ensures calls_6 { AgreesFor 6 directed.exposed_parameter }
+    ensures calls_7 { AgreesFor 7 directed.exposed_parameter }
+    ensures loops_3 { AgreesFor 3 control.loops }
+    ensures loops_6 { AgreesFor 6 control.loops }
+    ensures loops_9 { AgreesFor 9 control.loops }
+    ensures loops_12 { AgreesFor 12 control.loops }
+    ensures loops_15 { AgreesFor 15 control.loops }
+    ensures loops_18 { AgreesFor 18 control.loops }
+    ensures loops_21 { AgreesFor 21 control.loops }
+    ensures loops_24 { AgreesFor 24 control.loops }
+    ensures counted_2 { AgreesFor 2 directed.counted_down }
+    ensures counted_4 { AgreesFor 4 directed.counted_down }
+    ensures counted_5 { AgreesFor 5 directed.counted_down }
+    ensures counted_7 { AgreesFor 7 directed.counted_down }
+    ensures counted_9 { AgreesFor 9 directed.counted_down }
+    ensures counted_11 { AgreesFor 11 directed.counted_down }
+    ensures counted_12 { AgreesFor 12 directed.counted_down }
 {}

@@ -3,7 +3,7 @@
 
 pub use laws::{
     law_assignments, law_control, law_directed, law_ends, law_outside, law_overruns, law_pointers,
-    law_rules,
+    law_rules, law_stopped, law_waiting,
 };
 
 mod laws;

@@ -37,3 +37,15 @@ returns-clause-copy c = refl
 pub returns-clause-sum : goal.returns-clause-sum
 unfolding convert residue
 returns-clause-sum c = refl
+
+pub returns-clause-constant_element : goal.returns-clause-constant_element
+unfolding convert residue
+returns-clause-constant_element c = refl
+
+pub returns-clause-numbers_first : goal.returns-clause-numbers_first
+unfolding convert residue
+returns-clause-numbers_first c = refl
+
+pub returns-clause-countdown : goal.returns-clause-countdown
+unfolding convert residue
+returns-clause-countdown c = refl

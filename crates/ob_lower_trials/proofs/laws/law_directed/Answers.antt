@@ -54,3 +54,7 @@ returns-clause-unnamed c = refl
 pub returns-clause-other_type : goal.returns-clause-other_type
 unfolding convert residue from_bytes low_bytes
 returns-clause-other_type c = refl
+
+pub returns-clause-numbers_first : goal.returns-clause-numbers_first
+unfolding convert residue from_bytes low_bytes
+returns-clause-numbers_first c = refl
