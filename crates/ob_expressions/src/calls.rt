@@ -10,7 +10,7 @@ ghost use Rattle.ob_expressions.specs.Lists.{expr_trees};
 
 use crate::expressions::check;
 use ob_base::{Text, push_on};
-use ob_context::{Env, Known};
+use ob_context::{Env, Known, mark_of};
 use ob_conversions::{Checked, Mark};
 use ob_tree::{Expr, TypeFault};
 use ob_uses::{Argument, calling};
@@ -47,7 +47,13 @@ fn check_arguments(
     let mut given = Vec::new(alloc);
     for e in es {
         let is = check(alloc, env, known, e)?;
-        push_on(&mut given, Argument { first: e.first, is })?;
+        push_on(
+            &mut given,
+            Argument {
+                first: mark_of(e).first,
+                is,
+            },
+        )?;
     }
     Ok(given)
 }

@@ -3,25 +3,30 @@ ghost use Rattle.std.specs.Prelude.{◌≡◌, IfOk, OnOk, true};
 ghost use Rattle.ob_tree.specs.Types.{PlainType};
 ghost use Rattle.ob_tree.specs.Trees.{ExprTree};
 ghost use Rattle.ob_tree.specs.ExpressionView.{expr_tree};
-ghost use Rattle.ob_typed.specs.Conversions.{Checked as PlainChecked};
 ghost use Rattle.ob_typed.specs.Expressions.{check};
 ghost use Rattle.ob_typed.specs.Strings.{joined_bytes, string};
 ghost use Rattle.ob_typed.specs.TypedTree.{TypedExpr, TypedNode};
+ghost use Rattle.ob_tree.specs.StructsView.{plain_structs};
+ghost use Rattle.ob_typed.specs.Conversions.{Checked as PlainChecked, value};
+ghost use Rattle.ob_typed.specs.PostfixRules.{index_rule};
 ghost use Rattle.ob_conversions.specs.CheckedView.{checked, mark};
+ghost use Rattle.ob_conversions.specs.Gives.{Gives};
 ghost use Rattle.ob_context.specs.KnownView.{env_of, known_of, stand_of};
 ghost use Rattle.ob_context.specs.Walks.{Walks};
 
 use crate::calls::check_call;
 use crate::operands::{
-    check_arrow, check_assign, check_binary, check_cast, check_comma, check_cond, check_index,
-    check_member, check_size, check_size_of_type, check_step, check_unary,
+    check_arrow, check_member, check_size, check_size_of_type, check_step, check_unary,
 };
+use crate::specifiers::check_type;
 use ob_base::{NoMemory, Text};
-use ob_context::{Env, Known, mark_of};
+use ob_context::{Env, Known, beside_part, mark_of};
 use ob_conversions::fitting::null;
 use ob_conversions::numbers::number;
 use ob_conversions::types::pointer_to;
+use ob_conversions::values::values;
 use ob_conversions::{Checked, Mark};
+use ob_rules::{assignment_rule, binary_rule, cast_rule, comma_rule, cond_rule, index_rule};
 use ob_specifiers::{joined, string};
 use ob_tree::{CType, Expr, ExprNode, TypeFault};
 use ob_uses::name_rule;
@@ -42,7 +47,11 @@ pub fn check(alloc: Global, env: &Env, known: &mut Known, e: &Expr) -> Result<Ch
         ExprNode::Eof => Ok(Checked::Plain(number(m.line, IntType::Int, -1))),
         ExprNode::Str(strings) => string_literal(alloc, known, m, strings),
         ExprNode::Paren(inner) => check(alloc, env, known, inner),
-        ExprNode::Index(a, b) => check_index(alloc, env, known, m, a, b),
+        ExprNode::Index(a, b) => {
+            let x = check(alloc, env, known, a)?;
+            let (y, x) = beside_part(check(alloc, env, known, b), x)?;
+            element(alloc, known, m, x, y)
+        }
         ExprNode::Call(name, given) => check_call(alloc, env, known, m, name, given),
         ExprNode::Member(a, name) => check_member(alloc, env, known, m, a, name),
         ExprNode::Arrow(a, name) => check_arrow(alloc, env, known, m, a, name),
@@ -50,12 +59,47 @@ pub fn check(alloc: Global, env: &Env, known: &mut Known, e: &Expr) -> Result<Ch
         ExprNode::Unary(sign, a) => check_unary(alloc, env, known, m, *sign, a),
         ExprNode::SizeExpr(a) => check_size(alloc, env, known, m, a),
         ExprNode::SizeType(t) => check_size_of_type(alloc, env, known, m, t),
-        ExprNode::Cast(t, a) => check_cast(alloc, env, known, m, t, a),
-        ExprNode::Binary(sign, a, b) => check_binary(alloc, env, known, m, *sign, a, b),
-        ExprNode::Cond(c, a, b) => check_cond(alloc, env, known, m, c, a, b),
-        ExprNode::Assign(sign, a, b) => check_assign(alloc, env, known, m, *sign, a, b),
-        ExprNode::Comma(a, b) => check_comma(alloc, env, known, m, a, b),
+        ExprNode::Cast(t, a) => {
+            let t = check_type(alloc, env, known, t)?;
+            let (x, t) = beside_part(check(alloc, env, known, a), t)?;
+            cast_rule(alloc, m, t, x)
+        }
+        ExprNode::Binary(sign, a, b) => {
+            let x = check(alloc, env, known, a)?;
+            let (y, x) = beside_part(check(alloc, env, known, b), x)?;
+            binary_rule(alloc, &known.structs, m, *sign, x, y)
+        }
+        ExprNode::Cond(c, a, b) => {
+            let z = check(alloc, env, known, c)?;
+            let (x, z) = beside_part(check(alloc, env, known, a), z)?;
+            let (y, (z, x)) = beside_part(check(alloc, env, known, b), (z, x))?;
+            cond_rule(alloc, m, z, x, y)
+        }
+        ExprNode::Assign(sign, a, b) => {
+            let x = check(alloc, env, known, a)?;
+            let (y, x) = beside_part(check(alloc, env, known, b), x)?;
+            assignment_rule(alloc, &known.structs, m, *sign, mark_of(b).first, x, y)
+        }
+        ExprNode::Comma(a, b) => {
+            let x = check(alloc, env, known, a)?;
+            let (y, x) = beside_part(check(alloc, env, known, b), x)?;
+            comma_rule(alloc, m, x, y)
+        }
     }
+}
+
+/// `x[y]` (C99 6.5.2.1).
+fn element(
+    alloc: Global,
+    known: &Known,
+    m: Mark,
+    x: Checked,
+    y: Checked,
+) -> Result<Checked, TypeFault>
+    ensures { Gives checked result (index_rule (plain_structs known.now.structs) (mark m) (value (checked x)) (value (checked y))) }
+{
+    let (x, y) = values(alloc, x, y)?;
+    index_rule(alloc, &known.structs, m, x, y)
 }
 
 /// `NULL`: a null pointer constant of type `void *` (C99 7.17).

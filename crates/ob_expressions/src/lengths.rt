@@ -8,6 +8,7 @@ ghost use Rattle.ob_typed.specs.Faults.{by, next};
 ghost use Rattle.ob_typed.specs.Specifiers.{length_rule};
 ghost use Rattle.ob_context.specs.KnownView.{env_of, known_of, stand_of};
 ghost use Rattle.ob_context.specs.Walks.{Walks};
+ghost use Rattle.ob_expressions.specs.Lists.{dim_length};
 
 use crate::expressions::check;
 use ob_base::{let_go, push_on};
@@ -30,13 +31,22 @@ pub fn check_lengths(
 {
     let mut lengths = Vec::new(alloc);
     for dim in dims {
-        let length = match &dim.length {
-            Some(e) => check_length(alloc, env, known, e)?,
-            None => 0,
-        };
+        let length = check_dim(alloc, env, known, dim)?;
         push_on(&mut lengths, length)?;
     }
     Ok(lengths)
+}
+
+/// The length in a pair of brackets.
+#[cycle(check)]
+fn check_dim(alloc: Global, env: &Env, known: &mut Known, dim: &Dim) -> Result<u64, TypeFault>
+    ensures walks { Walks (λ n. n) result (known_of known.new) (dim_length (env_of env.now (stand_of known.old)) dim.now (known_of known.old)) }
+    ensures stays { OnOk result (stand_of known.new ≡ stand_of known.old) }
+{
+    match &dim.length {
+        Some(e) => check_length(alloc, env, known, e),
+        None => Ok(0),
+    }
 }
 
 /// The length that an expression gives.

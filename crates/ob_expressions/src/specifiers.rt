@@ -91,7 +91,7 @@ fn check_members(
 {
     let mut list = MemberList::new(alloc);
     for line in lines {
-        check_line(alloc, env, known, &mut list, line)?;
+        check_line(alloc, env, known, line, &mut list)?;
     }
     Ok(list)
 }
@@ -102,14 +102,14 @@ fn check_line(
     alloc: Global,
     env: &Env,
     known: &mut Known,
-    list: &mut MemberList,
     line: &MemberDecl,
+    list: &mut MemberList,
 ) -> Result<(), TypeFault>
     ensures walks { Walks (λ _. list.new) result (known_of known.new) (check_members (env_of env.now (stand_of known.old)) list.old (one_member line.now) (known_of known.old)) }
     ensures stays { OnOk result (stand_of known.new ≡ stand_of known.old) }
 {
     let t = check_spec(alloc, env, known, &line.spec)?;
-    let checked = check_names(alloc, env, known, &t, list, &line.names);
+    let checked = check_names(alloc, env, known, &line.names, &t, list);
     let_go(t);
     checked
 }
@@ -120,15 +120,15 @@ fn check_names(
     alloc: Global,
     env: &Env,
     known: &mut Known,
+    names: &Vec<ObjDecl>,
     t: &CType,
     list: &mut MemberList,
-    names: &Vec<ObjDecl>,
 ) -> Result<(), TypeFault>
     ensures walks { Walks (λ _. list.new) result (known_of known.new) (check_names (env_of env.now (stand_of known.old)) (plain_type t.now) list.old (obj_trees names.now.items) (known_of known.old)) }
     ensures stays { OnOk result (stand_of known.new ≡ stand_of known.old) }
 {
     for o in names {
-        check_member(alloc, env, known, t, list, o)?;
+        check_member(alloc, env, known, o, t, list)?;
     }
     Ok(())
 }
@@ -139,9 +139,9 @@ fn check_member(
     alloc: Global,
     env: &Env,
     known: &mut Known,
+    o: &ObjDecl,
     t: &CType,
     list: &mut MemberList,
-    o: &ObjDecl,
 ) -> Result<(), TypeFault>
     ensures walks { Walks (λ _. list.new) result (known_of known.new) (check_member (env_of env.now (stand_of known.old)) (plain_type t.now) list.old (obj_tree o.now) (known_of known.old)) }
     ensures stays { OnOk result (stand_of known.new ≡ stand_of known.old) }
