@@ -7,7 +7,8 @@
 //! initialiser is walked. Stands on `ob_base`, `ob_tree`, `ob_typed`, `ob_consts`, `ob_conversions`, `ob_context`, `ob_specifiers`
 //! and `ob_expressions`.
 //!
-//! To be believed are `Initialisers` of `ob_typed`; `InitTrees` here reads a vector of initialisers as the grammar's list.
+//! To be believed are `Initialisers` of `ob_typed` and the views of `ob_tree`, `ob_typed`, `ob_conversions` and `ob_context`.
+//! `Lists` here, which reads a vector of initialisers as the grammar's list, serves the proof.
 #![tactic(auto)]
 
 pub use lengths::{completed, foreseen};

@@ -1,12 +1,13 @@
 //! Lists in braces, for an array or a structure.
-ghost use Rattle.std.specs.Prelude.{◌≡◌, IfOk, Some, map, option_map};
+ghost use Rattle.std.specs.Prelude.{◌≡◌, IfOk, Some, map, option_map, slice_get};
 ghost use Rattle.std.specs.Option.{is_some};
 ghost use Rattle.ob_tree.specs.ExpressionView.{init_tree};
-ghost use Rattle.ob_tree.specs.Parts.{part};
+ghost use Rattle.ob_tree.specs.Parts.{part, row_part};
 ghost use Rattle.ob_tree.specs.StructsView.{plain_structs};
-ghost use Rattle.ob_tree.specs.TypeView.{plain_type};
-ghost use Rattle.ob_typed.specs.Initialisers.{list_rule, part_type, past_end};
+ghost use Rattle.ob_tree.specs.TypeView.{plain_struct, plain_type};
+ghost use Rattle.ob_typed.specs.Initialisers.{init_list, list_rule, part_type, past_end, type_of};
 ghost use Rattle.ob_typed.specs.Marks.{first_of_init};
+ghost use Rattle.ob_typed.specs.TypedTree.{TypedInit};
 ghost use Rattle.ob_typed.specs.TypedView.{typed_init};
 ghost use Rattle.ob_conversions.specs.Gives.{Gives};
 ghost use Rattle.ob_initialisers.specs.Lists.{init_trees};
@@ -14,27 +15,50 @@ ghost use Rattle.ob_initialisers.specs.Lists.{init_trees};
 use crate::refused::refuse;
 use ob_base::NoMemory;
 use ob_conversions::types::copy_type;
-use ob_tree::{CType, Init, MemberRow, Structs, TypeFault, TypeKind};
+use ob_tree::{CType, Init, StructRow, Structs, TypeFault, TypeKind};
 use ob_typed::TInit;
 use std::alloc::Global;
 
-/// Member `i` of the structure of a number.
-fn member_at(s: &Structs, number: u32, i: usize) -> Option<&MemberRow> {
-    match s.row(number) {
-        Some(row) => row.members.get(i),
+/// The type of member `i` of a structure.
+fn member_type(row: &StructRow, i: usize) -> Option<&CType>
+    ensures { option_map (λ u. plain_type u.now) result ≡ option_map (λ m. m.ty) (slice_get (plain_struct row.now).members i) }
+{
+    match row.members.get(i) {
+        Some(member) => Some(&member.ty),
         None => None,
     }
 }
 
-/// Whether a type has a part `i`. An array whose length is yet to be told has each.
+/// The type of member `i` of the structure of a number.
+fn member_at(s: &Structs, number: u32, i: usize) -> Option<&CType>
+    ensures { option_map (λ u. plain_type u.now) result ≡ type_of (row_part (plain_structs s.now) (slice_get (plain_structs s.now) number) i) }
+{
+    match s.row(number) {
+        Some(row) => member_type(row, i),
+        None => None,
+    }
+}
+
+/// The type of part `i` of a type, where there is one. An array whose length is yet to be told has each.
+fn part_at<'a>(s: &'a Structs, t: &'a CType, i: usize) -> Option<&'a CType>
+    ensures { option_map (λ u. plain_type u.now) result ≡ type_of (part (plain_structs s.now) (plain_type t.now) i) }
+{
+    match t {
+        CType::Array(element, count) => if *count == 0 || (i as u64) < *count {
+            Some(element)
+        } else {
+            None
+        },
+        CType::Struct(number) => member_at(s, *number, i),
+        _ => None,
+    }
+}
+
+/// Whether a type has a part `i`.
 fn has_part(s: &Structs, t: &CType, i: usize) -> bool
     ensures { result ≡ is_some (part (plain_structs s.now) (plain_type t.now) i) }
 {
-    match t {
-        CType::Array(_, count) => *count == 0 || (i as u64) < *count,
-        CType::Struct(number) => member_at(s, *number, i).is_some(),
-        _ => false,
-    }
+    part_at(s, t, i).is_some()
 }
 
 /// The type of part `i`, where there is one.
@@ -47,16 +71,11 @@ pub(crate) fn part_type(
     ensures { IfOk result (λ r. option_map plain_type r ≡ part_type (plain_structs s.now) (option_map (λ u. plain_type u.now) t.entry) i) }
 {
     match t {
-        Some(CType::Array(element, count)) => if *count == 0 || (i as u64) < *count {
-            Ok(Some(copy_type(alloc, element)?))
-        } else {
-            Ok(None)
-        },
-        Some(CType::Struct(number)) => match member_at(s, *number, i) {
-            Some(member) => Ok(Some(copy_type(alloc, &member.ty)?)),
+        Some(t) => match part_at(s, t, i) {
+            Some(part) => Ok(Some(copy_type(alloc, part)?)),
             None => Ok(None),
         },
-        _ => Ok(None),
+        None => Ok(None),
     }
 }
 
@@ -82,6 +101,13 @@ fn past_end(s: &Structs, t: &CType, items: &Vec<Init>) -> Option<u32>
     None
 }
 
+/// A list of items.
+fn list_of(items: Vec<TInit>) -> TInit
+    ensures { typed_init result ≡ TypedInit.Items (init_list (map typed_init items.items)) }
+{
+    TInit::List(items)
+}
+
 /// A list, whose brace stands at `first`, from what its items are.
 pub(crate) fn list_rule(
     s: &Structs,
@@ -93,11 +119,12 @@ pub(crate) fn list_rule(
     ensures { Gives typed_init result (list_rule (plain_structs s.now) (option_map (λ u. plain_type u.now) t.entry) first (init_trees sources.now.items) (map typed_init items.items)) }
 {
     match t {
-        None => Ok(TInit::List(items)),
+        None => Ok(list_of(items)),
         Some(t) => list_for(s, t, first, sources, items),
     }
 }
 
+/// A list for a type that there is.
 fn list_for(
     s: &Structs,
     t: &CType,
@@ -109,7 +136,7 @@ fn list_for(
 {
     match t {
         CType::Array(_, _) | CType::Struct(_) => match past_end(s, t, sources) {
-            None => Ok(TInit::List(items)),
+            None => Ok(list_of(items)),
             Some(place) => Err(refuse(TypeKind::Count, place, items)),
         },
         _ => Err(refuse(TypeKind::Count, first, items)),

@@ -1,0 +1,3 @@
+pub mod SourceRows
+pub mod TypedRows
+pub mod Members
