@@ -1,19 +1,16 @@
 -- Each outcome of a command has the cause of its answer.
-use Rattle.std.proofs.Common.{◌≡◌, ℕ, List, [], refl, sym, subst}
-use Rattle.std.specs.Prelude.{Option, Some, None}
-use Rattle.ob_base.specs.Devices.{Loading, Reading}
-use Rattle.ob_model.specs.Endings.{closed}
+use Rattle.std.proofs.Common.{◌≡◌, ℕ, List, refl, sym, subst}
+use Rattle.std.specs.Prelude.{Some, None}
 use Rattle.ob_code.specs.declared.image.Image.{Image}
 use Rattle.ob_code.specs.Rules.{IsVerified}
 use Rattle.ob_image.specs.Faults.{Spells}
-use Rattle.ob_settings.specs.declared.job.Job.{Job}
 use Rattle.ob_settings.specs.declared.verb.Verb.{Verb}
 use Rattle.ob_settings.specs.declared.verb.Verb.TheVariants as verb
-use Rattle.ob_commands.specs.Answers.{Outcome, told_why}
+use Rattle.ob_commands.specs.Answers.{Outcome}
 use Rattle.ob_commands.specs.Parts as parts
 use Rattle.ob_commands.specs.Parts.{Asked, Language, asked, OfFile, unavailable, long, OfSource, faulty, later, accepted, OfImage, bad, verified, IsLoaded}
-use Rattle.ob_commands.specs.Top.{Devices, Handed, Comes, ComesOf, Says}
-use Rattle.ob_commands.specs.Causes.{Cause, CauseOf, NoJobCause, CannotYet, Loads, HasSource, HasBytes, HasProgram, HasImage}
+use Rattle.ob_commands.specs.Top.{Devices, ComesOf}
+use Rattle.ob_commands.specs.Causes.{Cause, NoJobCause, Loads, HasSource, HasBytes}
 use Rattle.ob_commands.specs.Laws.{AnswersHaveCauses}
 
 module _ (lang : Language) where

@@ -3,17 +3,14 @@ use Rattle.std.proofs.Common.{◌≡◌, ℕ, zero, suc, ◌<◌, ◌≤◌, Lis
 use Rattle.std.proofs.lemmas.List.{append-nil}
 use Rattle.std.specs.Prelude.{Option, Some, None, ◌||◌, ◌&&◌, ◌==◌, slice_index_or}
 use Rattle.std.specs.List.{list_any}
-use Rattle.std.specs.Option.{option_map}
 use Rattle.std.specs.Io.KnownBytes.{append_known}
-use Rattle.ob_base.specs.Devices.{Loading, Reading, Writing, IsSound, IsUnread, IsUnwritten, IsWritten, IsCutOff}
-use Rattle.ob_base.specs.Sink.{Tally, tally_after, tally_known}
+use Rattle.ob_base.specs.Devices.{Loading, Reading, Writing, IsUnread, IsUnwritten, IsWritten}
+use Rattle.ob_base.specs.Sink.{Tally, tally_known}
 use Rattle.ob_model.specs.declared.endings.Ending.{Ending}
 use Rattle.ob_model.specs.declared.endings.Ending.TheVariants as ending
-use Rattle.ob_model.specs.declared.settings.Mode.{Mode}
 use Rattle.ob_model.specs.declared.settings.Mode.TheVariants.{Boundless}
 use Rattle.ob_model.specs.declared.settings.Profile.{Profile}
 use Rattle.ob_model.specs.declared.settings.RunSettings.{RunSettings}
-use Rattle.ob_model.specs.declared.strays.Act.{Act}
 use Rattle.ob_model.specs.declared.strays.Act.TheVariants.{Store}
 use Rattle.ob_model.specs.declared.strays.StrayEvent.{StrayEvent}
 use Rattle.ob_model.specs.Settings.{keeps_strays}
@@ -25,10 +22,9 @@ use Rattle.ob_code.specs.Start.{flat_final}
 use Rattle.ob_code.specs.State.{Final}
 use Rattle.ob_image.specs.Faults.{Spells, SpellsIn}
 use Rattle.ob_image.specs.declared.layout.Version.TheVariants.{Two}
-use Rattle.ob_machine.specs.Machines as machines
-use Rattle.ob_machine.specs.Machines.{ComesTo, done, broken, starved, HasStore, Hearing, IsDone, MachineState, Runs, loaded}
+use Rattle.ob_machine.specs.Machines.{ComesTo, done, broken, starved, HasStore, Hearing, MachineState, Runs, loaded}
 use Rattle.ob_report.specs.Lines.{ending_line}
-use Rattle.ob_watch.specs.Watching.{Watch, after_event, after_events}
+use Rattle.ob_watch.specs.Watching.{Watch, after_events}
 use Rattle.ob_settings.specs.declared.job.Job.{Job}
 use Rattle.ob_commands.specs.declared.answer.Answer.{Answer}
 use Rattle.ob_commands.specs.declared.answer.Answer.TheVariants.{Done, Usage, FileFault, FileLong, Refused, Bad, Ran, NotYet}
@@ -36,7 +32,7 @@ use Rattle.ob_commands.specs.declared.came.Came.{Came}
 use Rattle.ob_commands.specs.declared.came.Came.TheVariants.{Due, Cut, Lost, Starved}
 use Rattle.ob_commands.specs.Answers.{Outcome, line_of, report_of, told_why, wrote}
 use Rattle.ob_commands.specs.Parts as parts
-use Rattle.ob_commands.specs.Parts.{Asked, Supply, IsBadImage, IsLoaded, IsLong, OfFile, OfImage, RunsOn, RunsWith, final_of, is_store, keeps_stores, run_outcome, settings_for, unavailable, long, bad, verified}
+use Rattle.ob_commands.specs.Parts.{Asked, IsLoaded, OfFile, OfImage, RunsOn, RunsWith, final_of, is_store, keeps_stores, run_outcome, settings_for, unavailable, long, bad, verified}
 use Rattle.ob_commands.specs.Migrate.{IsRewritten}
 use Rattle.ob_commands.specs.Top.{IsIdle}
 use Rattle.ob_commands.specs.Delivery.{CameTo, IsDue, IsNoFile, IsNoImage, IsPut, came_of, err_due}
@@ -164,19 +160,6 @@ stores_kept a profile f boundless (e, at, is) =
     let mode : a.job.settings.mode ≡ Boundless = sym (mode_is a.job profile) ∙ boundless in
     ap (λ m. keeps_strays m && list_any is_store f.state.events) mode ∙ any_at is_store f.state.events at.0 e at.1 at.2 (stored e is)
 
--- watchers that were told events, all at each event and each at all events
-told_none : (ws : List Watch) → ws ≡ map (after_events []) ws
-told_none [] = refl
-told_none (w ∷ ws) = ap (λ (vs : List Watch). w ∷ vs) (told_none ws)
-
-told_first : (e : StrayEvent) (es : List StrayEvent) (ws : List Watch) → map (after_events es) (map (λ (w : Watch). after_event w e) ws) ≡ map (after_events (e ∷ es)) ws
-told_first e es [] = refl
-told_first e es (w ∷ ws) = ap (λ (vs : List Watch). after_events (e ∷ es) w ∷ vs) (told_first e es ws)
-
-told_all : (es : List StrayEvent) (ws : List Watch) → machines.after_events es ws ≡ map (after_events es) ws
-told_all [] ws = told_none ws
-told_all (e ∷ es) ws = told_all es (map (λ (w : Watch). after_event w e) ws) ∙ told_first e es ws
-
 run_due : (a : Asked) (image : Image) (input : List ℕ) (input_end : InputEnd) (seen : List Watch) (w : Writing) (e : Ending) (n : ℕ) → e ≡ (final_of a image input input_end).ending → n ≡ (final_of a image input input_end).state.instructions →
     seen ≡ map (after_events (final_of a image input input_end).state.events) a.watchers → IsWritten w (final_of a image input input_end).state.output → IsDue a seen (RunsWith a image input input_end) (Ran e) n w
 run_due a image input input_end seen w e n ends counts told all_written =
@@ -208,7 +191,7 @@ run_came a image I w h after e n input input_end ends before counts (done is) =
     let f : Final = final_of a image input input_end in
     let may : MayEnd input_end f.ending = ends image (settings_for a.job image.profile) a.supply.cycle a.supply.place input input_end a.job.steps in
     due_came a h.seen_now (RunsWith a image input input_end) I input_end n w e (subst (MayEnd input_end) (sym is.ending) may)
-    (run_due a image input input_end h.seen_now w e n is.ending (counts ∙ ap (λ (m : MachineState). m.instructions) is.machine) (is.events ∙ told_all f.state.events h.seen_before ∙ ap (map (after_events f.state.events)) before) is.output)
+    (run_due a image input input_end h.seen_now w e n is.ending (counts ∙ ap (λ (m : MachineState). m.instructions) is.machine) (is.events ∙ ap (map (after_events f.state.events)) before) is.output)
 run_came a image I w h after e n input input_end ends before counts (broken is) =
     let f : Final = final_of a image input input_end in
     subst (λ x. CameTo a h.seen_now (RunsWith a image input input_end) I (came_of x n) w) (sym is.ending)

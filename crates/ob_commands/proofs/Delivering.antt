@@ -10,8 +10,8 @@ use Rattle.ob_commands.specs.declared.came.Came.{Came}
 use Rattle.ob_commands.specs.declared.came.Came.TheVariants.{Due, Cut, Lost, Starved}
 use Rattle.ob_commands.specs.Answers.{Outcome, TakesMemory, status_of, told_why}
 use Rattle.ob_commands.specs.Parts.{Asked, Language, asked}
-use Rattle.ob_commands.specs.Top.{Answers, does, helpless, ComesOf, Delivers, whole, out_failed, err_failed, lost, starved, Devices, Handed, IsIdle, Says}
-use Rattle.ob_commands.specs.Delivery.{CameTo, Delivered, Told, all, cut, IsDue, IsCut, err_due}
+use Rattle.ob_commands.specs.Top.{Answers, does, helpless, ComesOf, Delivers, whole, out_failed, err_failed, lost, starved, Devices, Handed, IsIdle}
+use Rattle.ob_commands.specs.Delivery.{CameTo, Delivered, all, cut}
 use Rattle.ob_commands.proofs.Coming.{nothing_due}
 
 -- an outcome was delivered, or there was no memory to begin with

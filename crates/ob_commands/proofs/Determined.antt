@@ -1,22 +1,21 @@
 -- A told file comes to one outcome, which is delivered but for a failed write or want of memory.
-use Rattle.std.proofs.Common.{◌≡◌, ◌≢◌, ℕ, ◌<◌, ◌≤◌, ◌⊎◌, List, [], length, refl, sym, ap, ◌∙◌, subst, arith, inl, inr}
+use Rattle.std.proofs.Common.{◌≡◌, ℕ, ◌<◌, ◌≤◌, List, [], length, sym, ap, ◌∙◌, subst, arith, inl, inr}
 use Rattle.std.specs.Prelude.{Option, Some, None, IsSomeAnd}
 use Rattle.std.specs.FinMap.{get}
-use Rattle.ob_base.specs.Faults.{NoFault, Rose}
 use Rattle.ob_base.specs.Folder.{Files, IsMissing}
-use Rattle.ob_base.specs.Devices.{Loading, Reading, Writing, IsSound, IsUnavailable, IsToldAs, IsToldLong, IsWritten}
+use Rattle.ob_base.specs.Devices.{Loading, Reading, IsSound, IsUnavailable, IsToldAs, IsToldLong}
 use Rattle.ob_tree.specs.declared.faults.SourceFault.{SourceFault}
 use Rattle.ob_model.specs.Endings.{closed}
 use Rattle.ob_settings.specs.declared.job.Job.{Job}
 use Rattle.ob_settings.specs.declared.verb.Verb.{Verb}
 use Rattle.ob_settings.specs.declared.verb.Verb.TheVariants as verb
-use Rattle.ob_settings.specs.Jobs.{IsJobFor, OneJob}
+use Rattle.ob_settings.specs.Jobs.{OneJob}
 use Rattle.ob_commands.specs.declared.answer.Answer.TheVariants.{FileFault, FileLong, Refused, NotYet}
-use Rattle.ob_commands.specs.Answers.{Outcome, status_of, told_why}
+use Rattle.ob_commands.specs.Answers.{Outcome, told_why}
 use Rattle.ob_commands.specs.Parts as parts
-use Rattle.ob_commands.specs.Parts.{Asked, Language, IsLoaded, IsLong, asked, final_of, most_source_bytes, run_outcome, OfFile, unavailable, long, OfSource, faulty, later, accepted}
+use Rattle.ob_commands.specs.Parts.{Asked, Language, asked, final_of, most_source_bytes, run_outcome, OfFile, unavailable, long, faulty, later, accepted}
 use Rattle.ob_commands.specs.Run.{Run}
-use Rattle.ob_commands.specs.Top.{Answers, Ask, Comes, ComesOf, Devices, Does, Handed, does, helpless}
+use Rattle.ob_commands.specs.Top.{Ask, Comes, ComesOf, Devices, Handed, does, helpless}
 use Rattle.ob_commands.specs.Causes.{Loads}
 use Rattle.ob_commands.specs.Laws.{AsksFor, FailedTold, FailedWhen, FaultWhen, FileLongWhen, HasFile, HasText, IsExact, LaterWhen, MissingWhen, RunWhen}
 use Rattle.ob_commands.proofs.Rows.{delivered, nothing_came}

@@ -1,5 +1,5 @@
 -- A job whose command takes a maker has its maker among those that are at hand.
-use Rattle.std.proofs.Common.{◌≡◌, ℕ, ◌<◌, true, subst, refl, arith}
+use Rattle.std.proofs.Common.{◌≡◌, ℕ, ◌<◌, true, arith}
 use Rattle.std.proofs.lemmas.Bool.Decides.{nat_tests}
 use Rattle.std.specs.Prelude.{nat_lt}
 use Rattle.ob_settings.specs.Jobs.{has_maker}

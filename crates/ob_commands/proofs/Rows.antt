@@ -5,7 +5,7 @@ use Rattle.std.specs.Prelude.{Option, Some, None}
 use Rattle.std.specs.Io.KnownBytes.{append_known}
 use Rattle.ob_base.specs.Faults.{Rose}
 use Rattle.ob_base.specs.Sink.{tally_known}
-use Rattle.ob_base.specs.Devices.{Loading, Reading, Writing, IsSound, IsUnavailable, IsUnread, IsUnwritten, IsWritten}
+use Rattle.ob_base.specs.Devices.{Loading, Reading, Writing, IsSound, IsUnread, IsUnwritten, IsWritten}
 use Rattle.ob_tree.specs.declared.faults.SourceFault.{SourceFault}
 use Rattle.ob_model.specs.declared.endings.Ending.{Ending}
 use Rattle.ob_model.specs.declared.endings.Ending.TheVariants as ending
@@ -18,15 +18,14 @@ use Rattle.ob_machine.specs.Devices.{IsInput}
 use Rattle.ob_settings.specs.declared.job.Job.{Job}
 use Rattle.ob_settings.specs.declared.verb.Verb.{Verb}
 use Rattle.ob_settings.specs.declared.verb.Verb.TheVariants as verb
-use Rattle.ob_settings.specs.Jobs.{AsksForJob, IsJobFor, IsUsage, IsUsageFor}
+use Rattle.ob_settings.specs.Jobs.{IsJobFor, IsUsageFor}
 use Rattle.ob_commands.specs.declared.answer.Answer.{Answer}
 use Rattle.ob_commands.specs.declared.answer.Answer.TheVariants.{Usage, FileFault, FileLong, Refused, Bad, Ran, NotYet}
 use Rattle.ob_commands.specs.Answers.{Outcome, TakesMemory, status_of, told_why}
 use Rattle.ob_commands.specs.Parts as parts
 use Rattle.ob_commands.specs.Parts.{Asked, Language, asked, final_of, settings_for, OfFile, unavailable, long, OfSource, faulty, later, accepted, OfImage, bad, verified}
-use Rattle.ob_commands.specs.Top.{Answers, Ask, Comes, ComesOf, Delivers, Devices, Does, Handed, Says, does, helpless, wants_report, whole, out_failed, err_failed, lost, starved}
-use Rattle.ob_commands.specs.Causes.{CauseOf, HasEnding, RunEnds}
-use Rattle.ob_commands.specs.Laws as laws
+use Rattle.ob_commands.specs.Top.{Answers, Ask, Comes, ComesOf, Delivers, Devices, Does, Handed, does, helpless, wants_report, whole, out_failed, err_failed, lost, starved}
+use Rattle.ob_commands.specs.Causes.{CauseOf, HasEnding}
 use Rattle.ob_commands.specs.Laws.{AllIsTold, CannotLoad, ComesTo, IsRefusal, LaterTold, NoOther, NotYetOnly, OwnOnly, RefusalsAreTold, FaultOnly, FaultTold, FaultsAreTold, FileFaultOnly, FileLongOnly, GivesWay, HasLongFile, InputIsLeft, IsTold, BadOnly, BadTold, EndingOnly, RanTo, ReadFaultOnly, SinksTakePrefixes, Takes, UsageOnly, UsageTakesNoMemory, UsageWhen, WriteFaultOnly}
 use Rattle.ob_commands.proofs.Caused.{caused}
 use Rattle.ob_commands.proofs.Coming.{nothing_due}

@@ -1,6 +1,6 @@
 -- What a job comes to, as data: its answer with the status and the line that belong to it, what is due to the two sinks, and how
 -- many instructions were run.
-use Rattle.std.specs.Prelude.{◌≡◌, ℕ, Bool, false, IsTrue, List, [], ◌∷◌, ◌++◌, map, ⊤, if◌then◌else◌}
+use Rattle.std.specs.Prelude.{ℕ, Bool, false, IsTrue, List, [], map, ⊤, if◌then◌else◌}
 use Rattle.ob_tree.specs.declared.faults.SourceFault.{SourceFault}
 use Rattle.ob_tree.specs.declared.faults.SourceFault.TheVariants as source
 use Rattle.ob_tree.specs.declared.faults.SyntaxKind.TheVariants as syntax

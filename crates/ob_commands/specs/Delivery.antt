@@ -1,11 +1,9 @@
 -- How far the program has come with a job before the error sink is told of it, and how a line is told. These serve the proof.
-use Rattle.std.specs.Prelude.{◌≡◌, ℕ, ◌<◌, ◌≤◌, ◌⊎◌, ◌++◌, Bool, true, List, [], length, ⊤}
-use Rattle.ob_base.specs.Devices.{Loading, Reading, Writing, IsSound, IsUnavailable, IsUnread, IsUnwritten, IsWritten, IsCutOff}
+use Rattle.std.specs.Prelude.{◌≡◌, ℕ, ◌≤◌, ◌⊎◌, ◌++◌, Bool, true, List, [], ⊤}
+use Rattle.ob_base.specs.Devices.{Loading, Writing, IsSound, IsUnavailable, IsUnwritten, IsWritten, IsCutOff}
 use Rattle.ob_model.specs.declared.endings.Ending.{Ending}
 use Rattle.ob_model.specs.declared.endings.Ending.TheVariants as ending
 use Rattle.ob_machine.specs.Devices.{IsPartlySent}
-use Rattle.ob_code.specs.declared.faults.BadImage.{BadImage}
-use Rattle.ob_code.specs.declared.image.Image.{Image}
 use Rattle.ob_report.specs.Lines.{ending_line}
 use Rattle.ob_settings.specs.declared.job.Job.{Job}
 use Rattle.ob_settings.specs.declared.verb.Verb.{Verb}
@@ -86,10 +84,7 @@ abbrev pub CameFor : Job → (Asked → Outcome → Type 0) → (idle : Type 0) 
 CameFor job Q idle came out =
     (supply : Supply) (watchers seen : List Watch) → CameTo (ask_for job supply watchers) seen (Q (ask_for job supply watchers)) idle came out
 
--- a maker's place is one of its cycle; a command without a maker takes any
-abbrev pub Stands : Supply → Type 0
-Stands supply = supply.place < length supply.cycle
-
+-- a command with a maker; one without takes any
 abbrev pub TakesMaker : Verb → Type 0
 TakesMaker verb.Run = ⊤
 TakesMaker verb.Exec = ⊤

@@ -1,11 +1,10 @@
 -- Laws of the clause: each row of the table of causes, one way or both, for every language whose sources come to one outcome each.
-use Rattle.std.specs.Prelude.{◌≡◌, ◌≢◌, ℕ, ◌<◌, ◌≤◌, ◌⊎◌, ℤ, List, [], ◌++◌, length, map, take, ⊤, Option, Some, None}
+use Rattle.std.specs.Prelude.{◌≡◌, ◌≢◌, ℕ, ◌<◌, ◌≤◌, ◌⊎◌, ℤ, List, [], length, ⊤, Option, Some, None}
 use Rattle.std.specs.FinMap.{get}
-use Rattle.std.specs.Io.KnownBytes.{append_known}
 use Rattle.ob_base.specs.Faults.{NoFault, Rose}
 use Rattle.ob_base.specs.Folder.{Files, IsMissing}
 use Rattle.ob_base.specs.Sink.{TakesPrefix}
-use Rattle.ob_base.specs.Devices.{Loading, Reading, Writing, IsSound, IsUnavailable, IsUnread, IsUnwritten, IsWritten}
+use Rattle.ob_base.specs.Devices.{Loading, Writing, IsSound, IsUnavailable, IsUnread, IsWritten}
 use Rattle.ob_tree.specs.declared.faults.SourceFault.{SourceFault}
 use Rattle.ob_tree.specs.declared.faults.SourceFault.TheVariants as source
 use Rattle.ob_model.specs.declared.endings.Ending.{Ending}
@@ -13,18 +12,15 @@ use Rattle.ob_model.specs.declared.endings.Ending.TheVariants as ending
 use Rattle.ob_model.specs.Endings as endings
 use Rattle.ob_model.specs.Endings.{closed}
 use Rattle.ob_code.specs.declared.faults.BadImage.{BadImage}
-use Rattle.ob_code.specs.State.{Final}
-use Rattle.ob_report.specs.Diagnostics.{diagnostic_line}
 use Rattle.ob_settings.specs.declared.job.Job.{Job}
-use Rattle.ob_settings.specs.declared.verb.Verb.{Verb}
 use Rattle.ob_settings.specs.declared.verb.Verb.TheVariants as verb
 use Rattle.ob_settings.specs.Jobs.{IsJobFor, IsUsage, IsUsageFor}
 use Rattle.ob_commands.specs.declared.answer.Answer.{Answer}
-use Rattle.ob_commands.specs.declared.answer.Answer.TheVariants.{Done, Usage, FileFault, FileLong, Refused, Bad, Ran, NotYet}
-use Rattle.ob_commands.specs.Answers.{Outcome, fault_status, line_of, status_of, told_why}
-use Rattle.ob_commands.specs.Parts.{Asked, Language, IsLong, asked, final_of, most_source_bytes, run_outcome}
+use Rattle.ob_commands.specs.declared.answer.Answer.TheVariants.{Done, Usage, FileFault, FileLong, Refused, Ran, NotYet}
+use Rattle.ob_commands.specs.Answers.{Outcome, status_of, told_why}
+use Rattle.ob_commands.specs.Parts.{Language, IsLong, asked, final_of, most_source_bytes, run_outcome}
 use Rattle.ob_commands.specs.Top.{Answers, Ask, Comes, Devices, Does, Handed}
-use Rattle.ob_commands.specs.Causes.{Cause, CauseOf, CannotYet, HasBadImage, HasEnding, HasFault, Loads}
+use Rattle.ob_commands.specs.Causes.{CauseOf, CannotYet, HasBadImage, HasEnding, HasFault, Loads}
 
 -- ---- languages
 

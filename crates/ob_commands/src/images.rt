@@ -4,7 +4,6 @@ ghost use Rattle.ob_model.specs.Settings.{IsFit};
 ghost use Rattle.ob_code.specs.Rules.{IsVerified};
 ghost use Rattle.ob_image.specs.Faults.{Spells};
 ghost use Rattle.ob_settings.specs.declared.job.Job.{Job as JobValue};
-ghost use Rattle.ob_commands.specs.Parts.{RunsOn};
 ghost use Rattle.ob_commands.specs.Exec.{Exec};
 ghost use Rattle.ob_commands.specs.Migrate.{Migrate};
 ghost use Rattle.ob_commands.specs.Top.{IsIdle, OnImage};

@@ -8,8 +8,8 @@
 //! causes, and `Laws`, whose proofs for each language are this crate's laws, `proofs/Rows`, `proofs/Caused`
 //! and `proofs/Meant`. `Delivery` serves the proof.
 //!
-//! Stands on `ob_settings` for the words, on `ob_report` for texts, on `ob_image`, `ob_code`, `ob_space` and
-//! `ob_machine` for images and their runs, on `ob_maker` and `ob_watch` for what is handed in, and on what
+//! Stands on `ob_settings` for the words, on `ob_report` for texts, on `ob_image`, `ob_code` and `ob_machine`
+//! for images and their runs, on `ob_maker` and `ob_watch` for what is handed in, and on what
 //! these stand on.
 #![tactic(auto)]
 
@@ -21,7 +21,7 @@ pub use laws::law_migrated;
 pub use running::run_image;
 pub use status::Status;
 pub use telling::deliver;
-pub use words::{job_of, stands};
+pub use words::job_of;
 
 mod answer;
 mod came;

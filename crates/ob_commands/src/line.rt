@@ -1,7 +1,7 @@
 ghost use Rattle.std.specs.Prelude.{◌≡◌, ◌++◌, map, IfOk, IsErr};
 ghost use Rattle.ob_report.specs.Lines.{ending_line};
 ghost use Rattle.ob_report.specs.Reports.{report_text};
-ghost use Rattle.ob_commands.specs.Answers.{TakesMemory, account_of, line_of};
+ghost use Rattle.ob_commands.specs.Answers.{TakesMemory, line_of};
 ghost use Rattle.ob_commands.specs.Delivery.{bytes_of, err_of};
 
 use crate::answer::Answer;

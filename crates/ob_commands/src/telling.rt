@@ -1,4 +1,4 @@
-ghost use Rattle.std.specs.Prelude.{◌≡◌, map};
+ghost use Rattle.std.specs.Prelude.{map};
 ghost use Rattle.ob_commands.specs.Delivery.{Delivered, Told};
 
 use crate::came::Came;

@@ -1,10 +1,7 @@
-ghost use Rattle.std.specs.Prelude.{◌≡◌, ◌<◌, map, length, slice_index_or, string_bytes, Err, IfOk};
+ghost use Rattle.std.specs.Prelude.{◌≡◌, ◌<◌, map, string_bytes, Err, IfOk};
 ghost use Rattle.ob_settings.specs.Jobs.{AsksForJob, IsJobFor, IsUsageFor};
 ghost use Rattle.ob_settings.specs.declared.job.WordsFault.TheVariants as fault;
-ghost use Rattle.ob_commands.specs.Parts.{no_supply};
-ghost use Rattle.ob_commands.specs.Delivery.{Stands};
 
-use ob_maker::Maker;
 use ob_settings::{Job, WordsFault, law_one_job, read_words};
 use std::alloc::Global;
 
@@ -23,20 +20,4 @@ pub fn job_of(alloc: Global, words: &Vec<String>, makers: usize) -> Result<Job, 
         Ok(_) => Err(WordsFault::Usage),
         Err(fault) => Err(fault),
     }
-}
-
-fn maker_stands(maker: &Box<dyn Maker>)
-    ensures { place maker.now < length (cycle maker.now) }
-{
-    maker.stands();
-}
-
-/// Does nothing; says that the place of a maker of the list is one of its cycle.
-pub fn stands(makers: &Vec<Box<dyn Maker>>, at: usize)
-    ensures { at < length makers.now.items → Stands (slice_index_or (map (λ m. record { cycle = cycle m; place = place m }) makers.now.items) at no_supply) }
-{
-    if at >= makers.len() {
-        return;
-    }
-    maker_stands(&makers[at]);
 }

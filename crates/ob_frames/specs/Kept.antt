@@ -5,7 +5,7 @@ use Rattle.std.specs.Vec.{vec_capacity}
 use Rattle.ob_model.specs.Limits.{stack_bytes}
 use Rattle.ob_flat.specs.Memory.{Memory}
 use Rattle.ob_code.specs.declared.image.FunctionRow.{FunctionRow}
-use Rattle.ob_code.specs.Frames.{allowances, function_at, next_base}
+use Rattle.ob_code.specs.Frames.{allowances, function_at, next_base, top_base}
 use Rattle.ob_code.specs.Layout.{static_blocks}
 use Rattle.ob_code.specs.Limits.{most_statics, most_pointers}
 use Rattle.ob_code.specs.Rules.{AreSound, IsFrameSound, IsPointerSound, IsStaticSound}
@@ -38,3 +38,8 @@ pub record IsKept (f : Framed) (active : Vec Active) (taken end : ℕ) : Type 0 
   pub sum : taken ≡ allowances f.functions f.calls
   pub next : end ≡ next_base f.functions f.calls
   pub capacity : 65536 ≤ vec_capacity active
+
+-- and `top` is where the innermost frame begins
+pub record IsPlaced (f : Framed) (active : Vec Active) (taken end top : ℕ) : Type 0 where
+  pub kept : IsKept f active taken end
+  pub place : top ≡ top_base f.calls

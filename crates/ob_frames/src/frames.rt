@@ -64,17 +64,18 @@ pub struct Frames {
     calls: Vec<Active>,
     taken: u64,
     end: u64,
+    top: u64,
 }
 
 impl Model for Frames {
     ghost use Rattle.ob_frames.specs.Framed.{Framed};
-    ghost use Rattle.ob_frames.specs.Kept.{IsKept, framed_in};
+    ghost use Rattle.ob_frames.specs.Kept.{IsPlaced, framed_in};
 
     ghost Value = { Framed };
 
     ghost view = { λ s. framed_in s.statics s.functions s.flat s.calls.items };
 
-    ghost invariant = { λ s. IsKept (framed_in s.statics s.functions s.flat s.calls.items) s.calls s.taken s.end };
+    ghost invariant = { λ s. IsPlaced (framed_in s.statics s.functions s.flat s.calls.items) s.calls s.taken s.end s.top };
 }
 
 impl Frames {
@@ -99,6 +100,7 @@ impl Frames {
             calls,
             taken: 0,
             end: STACK_START,
+            top: 0,
         })
     }
 
@@ -113,6 +115,7 @@ impl Frames {
         self.calls.clear();
         self.taken = 0;
         self.end = STACK_START;
+        self.top = 0;
     }
 
     /// What holds of the memory between calls: its rows keep the rules of images, and its frames lie one
@@ -138,9 +141,8 @@ impl Frames {
             return Err(StackFull);
         }
         let length = frame_length(row) as u64;
-        let caller = top_base(self.calls.as_slice());
         let base = self.end;
-        open_frame(&mut self.flat, base, length, link, caller);
+        open_frame(&mut self.flat, base, length, link, self.top);
         add_call(
             &mut self.calls,
             Active {
@@ -151,6 +153,7 @@ impl Frames {
         );
         self.taken += allowance;
         self.end += length;
+        self.top = base;
         Ok(base)
     }
 
@@ -164,6 +167,7 @@ impl Frames {
         let link = self.flat.get(call.base, 8);
         self.taken -= row_of(self.functions.as_slice(), call.function).allowance;
         self.end = call.base;
+        self.top = top_base(self.calls.as_slice());
         Some(Left {
             function: call.function,
             link,
@@ -194,7 +198,7 @@ impl Frames {
         requires { row < length (top_locals self.now) }
         ensures { result ≡ local_base self.now row }
     {
-        top_base(self.calls.as_slice()) + self.local_row(row).place
+        self.top + self.local_row(row).place
     }
 
     /// A local row of the innermost call's function.
@@ -235,16 +239,17 @@ impl Frames {
     }
 
     /// A word of the innermost call's frame, counted from 0. The frame has more than `index` words.
+    #[inline(always)]
     pub fn get_word(&self, index: u32) -> u64
         requires { index < top_words self.now }
         ensures { result ≡ field self.now.memory (word_at self.now index) 8 }
     {
-        let base = top_base(self.calls.as_slice());
-        self.flat.get(base + 8 * u64::from(index), 8)
+        self.flat.get(self.top + 8 * u64::from(index), 8)
     }
 
     /// Writes a word of the innermost call's frame, behind its two link words: `index` is at least 2, and
     /// the frame has more words. Nothing else changes.
+    #[inline(always)]
     pub fn put_word(&mut self, index: u32, w: u64)
         requires least { 2 ≤ index }
         requires most { index < top_words self.old }
@@ -252,8 +257,7 @@ impl Frames {
         ensures word { WritesWord (word_at self.old index) w self.old.memory self.new.memory }
         ensures links { LinksAreKept self.old.calls self.new.calls self.new.memory }
     {
-        let base = top_base(self.calls.as_slice());
-        put_in_frame(&mut self.flat, base, base + 8 * u64::from(index), w);
+        put_in_frame(&mut self.flat, self.top, self.top + 8 * u64::from(index), w);
     }
 
     /// What a load of this kind reads at an address. The bytes lie in one of the three ranges.

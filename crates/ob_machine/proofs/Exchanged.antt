@@ -21,13 +21,14 @@ use Rattle.ob_machine.specs.Hearing.{Audience, GoesOnTelling, Heard, HeardOrLack
 use Rattle.ob_machine.specs.Exchanges.{Advances, Answers, CanFollow, Devices, FailsToGet, IsRefilled, KnowsEnd, LacksMemory, Moves, NeedsRead, Puts, Refills, having_done, reading}
 use Rattle.ob_machine.proofs.Handed.{ticked_once}
 use Rattle.ob_machine.proofs.Sent.{sent_none}
+use Rattle.ob_machine.proofs.Told.{told_none}
 
 prepend-nil : (known : Option (List ℕ)) → known ≡ prepend_known [] known
 prepend-nil None = refl
 prepend-nil (Some xs) = refl
 
 pub none_heard : (h : Audience) → Hears h h []
-none_heard h = record { cycle = refl; seen = refl }
+none_heard h = record { cycle = refl; seen = told_none h.seen }
 
 -- nothing was read, written and told
 pub still : (d : Devices) → KnowsEnd d.unread d.left → Moves d d [] [] []

@@ -1,5 +1,5 @@
 -- Where a run comes to, from what its loop answers.
-use Rattle.std.proofs.Common.{◌≡◌, ℕ, ◌≤◌, List, [], ◌++◌, Option, Some, None, refl, sym, ap, ◌∙◌, subst, arith}
+use Rattle.std.proofs.Common.{◌≡◌, ℕ, ◌≤◌, List, [], ◌++◌, map, Option, Some, None, refl, sym, ap, ◌∙◌, subst, arith}
 use Rattle.std.specs.Io.KnownBytes.{append_known, prepend_known, IsAtEnd}
 use Rattle.std.proofs.lemmas.List.{append-nil}
 use Rattle.ob_base.specs.Faults.{Rose}
@@ -10,6 +10,7 @@ use Rattle.ob_model.specs.declared.endings.Ending.TheVariants.{NoMemory, ReadFau
 use Rattle.ob_model.specs.declared.strays.StrayEvent.{StrayEvent}
 use Rattle.ob_model.specs.Endings.{Begins, InputEnd, closed, failed}
 use Rattle.ob_code.specs.State.{Final, State}
+use Rattle.ob_watch.specs.Watching.{after_events}
 use Rattle.ob_machine.specs.declared.execution.Execution.{Execution}
 use Rattle.ob_machine.specs.Buffers.{Unread}
 use Rattle.ob_base.specs.Devices.{AreTold, Reading, Writing, IsWritten}
@@ -17,7 +18,7 @@ use Rattle.ob_machine.specs.Exchanges.{CanFollow, CutAfterRead, Devices, EndsAtR
 use Rattle.ob_machine.specs.Executions.{state_of}
 use Rattle.ob_machine.specs.Finished.{ComesOut, Flushed, at_start, ended, broken, starved}
 use Rattle.ob_machine.specs.Hearing.{Audience}
-use Rattle.ob_machine.specs.Machines.{Hearing, after_events}
+use Rattle.ob_machine.specs.Machines.{Hearing}
 use Rattle.ob_machine.specs.Buffers.{SentOrPending}
 use Rattle.ob_machine.proofs.Flushed.{cut_last}
 use Rattle.ob_machine.proofs.Sent.{flush_prefix, sent_prefix}
@@ -106,7 +107,7 @@ module _ (run : InputEnd → State → Final) (e f : Execution) (d d' : Devices)
           ending = ap (λ x. x.ending) (sym final);
           output = subst (λ x. IsWritten w x.state.output) (sym final) (all_sent d.taken d'.taken taken d.tally d'.tally tally d.write_faults faults d'.pending (d.pending ++ a.written) a.written (written_all a.written) a.moves.sent took tallied (quiet ∙ a.moves.write_quiet));
           place = ap (λ x. x.state.cycle_place) (sym final);
-          events = a.moves.heard.seen ∙ ap (λ x. after_events x.state.events d.hears.seen) (sym final);
+          events = a.moves.heard.seen ∙ ap (λ x. map (after_events x.state.events) d.hears.seen) (sym final);
           space = ap (λ x. x.state.space) (sym final);
           instructions = ap (λ x. x.state.instructions) (sym final);
         });
@@ -146,7 +147,7 @@ module _ (run : InputEnd → State → Final) (e f : Execution) (d d' : Devices)
           ending = ap (λ x. x.ending) (sym final);
           output = subst (λ x. IsWritten w x.state.output) (sym final) (all_sent d.taken d'.taken d'.taken d.tally d'.tally d'.tally d.write_faults d'.write_faults [] (d.pending ++ a.written) a.written (written_all a.written) a.sent (sym (append_known-nil d'.taken)) (sym (tally_known-nil d'.tally)) a.write_quiet);
           place = ap (λ x. x.state.cycle_place) (sym final);
-          events = a.heard.seen ∙ ap (λ x. after_events x.state.events d.hears.seen) (sym final);
+          events = a.heard.seen ∙ ap (λ x. map (after_events x.state.events) d.hears.seen) (sym final);
           space = ap (λ x. x.state.space) (sym final);
           instructions = ap (λ x. x.state.instructions) (sym final);
         });

@@ -24,7 +24,7 @@ use Rattle.ob_machine.specs.Hearing.{Audience, Heard, Lacks, events_of, having_t
 use Rattle.ob_machine.proofs.Handed.{ticked_once}
 use Rattle.ob_machine.proofs.Placed.{load_keeps}
 use Rattle.ob_machine.proofs.Stepped.{frees, loads, stores}
-use Rattle.ob_machine.proofs.Told.{events_one}
+use Rattle.ob_machine.proofs.Told.{events_one, told_none}
 
 -- an event that is told stands behind the others
 told_is : (e : Option StrayEvent) (s : State) (space : Space) → record (told e s) { space = space } ≡ record s { space = space; events = s.events ++ events_of e }
@@ -85,7 +85,7 @@ module _ (e : Execution) (h h' : Audience) (kind : LoadKind) (line b c w : ℕ) 
       let kept : new.space ≡ e.space.space = ap (λ s. s.space) space ∙ ap (λ y. space_after_load y e.space.space) far in
       record {
         told = [];
-        hears = record { cycle = cycle; seen = seen ∙ ap (λ o. watches_after o h.seen) none };
+        hears = record { cycle = cycle; seen = seen ∙ ap (λ o. watches_after o h.seen) none ∙ told_none h.seen };
         same = λ image input_end r.
             let u = setup image e.space.settings h.cycle input_end in
             let s = heard_by e h r in
@@ -112,7 +112,7 @@ module _ (e : Execution) (h h' : Audience) (kind : LoadKind) (line b c w : ℕ) 
       let none : store_event e.space w d kind line ≡ None = ap (λ y. event_of y line act.Store (bytes_of_kind kind)) far in
       record {
         told = [];
-        hears = record { cycle = cycle; seen = seen ∙ ap (λ o. watches_after o h.seen) none };
+        hears = record { cycle = cycle; seen = seen ∙ ap (λ o. watches_after o h.seen) none ∙ told_none h.seen };
         same = λ image input_end r.
             let u = setup image e.space.settings h.cycle input_end in
             let s = heard_by e h r in

@@ -17,7 +17,7 @@ use Rattle.ob_code.specs.State.{Call, Setup, Space, State, goes}
 use Rattle.ob_machine.specs.Executions.{top_number}
 use Rattle.ob_machine.specs.Progress.{AreLinked, IsInnermost, IsLink, IsPlaced, Leads, Reaches}
 use Rattle.ob_machine.proofs.Placed as placed
-use Rattle.ob_machine.proofs.Placed.{Goes, Stays, act_on, in_code, numbers}
+use Rattle.ob_machine.proofs.Placed.{Goes, Stays, act_on, in_code}
 
 pub innermost_in_code : (image : Image) (calls : List Call) (at : ℕ) → IsVerified image → IsInnermost image calls at → at < length image.code
 innermost_in_code image [] at v here = absurd here

@@ -8,7 +8,7 @@ use Rattle.ob_code.specs.Start.{fresh, most_instructions, run_from, started}
 use Rattle.ob_code.specs.State.{Final, Next, Setup, Space, State, goes, stops}
 use Rattle.ob_machine.specs.Progress.{Leads, Reaches}
 use Rattle.ob_machine.proofs.Tells as tells
-use Rattle.ob_machine.proofs.Tells.{CanEnd, IsAfter, Tells, act_on, quiet}
+use Rattle.ob_machine.proofs.Tells.{CanEnd, Tells, act_on, quiet}
 
 pub begins_then : {A : Type 0} → (xs ys zs : List A) → Begins xs ys → Begins ys zs → Begins xs zs
 begins_then xs ys zs p q = (p.0 ++ q.0, q.1 ∙ ap (λ l. l ++ q.0) p.1 ∙ append_assoc xs p.0 q.0)

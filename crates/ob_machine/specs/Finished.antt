@@ -1,5 +1,5 @@
 -- Where a run came to, with its devices, its maker and its watchers.
-use Rattle.std.specs.Prelude.{◌≡◌, ℕ, ◌≤◌, List, []}
+use Rattle.std.specs.Prelude.{◌≡◌, ℕ, ◌≤◌, List, [], map}
 use Rattle.ob_base.specs.Devices.{Reading, Writing, IsWritten, IsCutOff}
 use Rattle.ob_model.specs.declared.endings.Ending.{Ending}
 use Rattle.ob_model.specs.declared.endings.Ending.TheVariants.{WriteFault, NoMemory}
@@ -7,10 +7,11 @@ use Rattle.ob_model.specs.declared.settings.Mode.TheVariants.{Boundless}
 use Rattle.ob_model.specs.declared.strays.StrayEvent.{StrayEvent}
 use Rattle.ob_model.specs.Endings.{Begins, InputEnd}
 use Rattle.ob_code.specs.State.{Final, State}
+use Rattle.ob_watch.specs.Watching.{after_events}
 use Rattle.ob_machine.specs.declared.execution.Execution.{Execution}
 use Rattle.ob_machine.specs.Devices.{IsInput, IsPartlySent}
 use Rattle.ob_machine.specs.Executions.{Beside, state_of}
-use Rattle.ob_machine.specs.Machines.{HasStore, Hearing, IsFlushedBeforeReads, after_events}
+use Rattle.ob_machine.specs.Machines.{HasStore, Hearing, IsFlushedBeforeReads}
 
 -- what stands beside a run before it starts
 abbrev pub at_start : List ℕ → ℕ → Beside
@@ -21,7 +22,7 @@ pub record Ended (final : Final) (f : Execution) (w : Writing) (h : Hearing) (an
   pub ending : answer ≡ final.ending
   pub output : IsWritten w final.state.output
   pub place : h.place_now ≡ final.state.cycle_place
-  pub events : h.seen_now ≡ after_events final.state.events h.seen_before
+  pub events : h.seen_now ≡ map (after_events final.state.events) h.seen_before
   pub space : f.space.space ≡ final.state.space
   pub instructions : f.instructions ≡ final.state.instructions
 
@@ -29,7 +30,7 @@ pub record Ended (final : Final) (f : Execution) (w : Writing) (h : Hearing) (an
 pub record IsToldUntil (events : List StrayEvent) (h : Hearing) : Type 0 where
   pub told : List StrayEvent
   pub begins : Begins told events
-  pub seen : h.seen_now ≡ after_events told h.seen_before
+  pub seen : h.seen_now ≡ map (after_events told) h.seen_before
 
 -- a write failed before
 pub record Broken (final : Final) (f : Execution) (w : Writing) (h : Hearing) (answer : Ending) : Type 0 where

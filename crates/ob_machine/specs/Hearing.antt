@@ -1,5 +1,5 @@
 -- A maker and the watchers of a run in progress, and an instruction that may tell and take from them.
-use Rattle.std.specs.Prelude.{◌≡◌, ℕ, List, [], ◌∷◌, ◌++◌, Option, Some, None, Result, Ok, Err}
+use Rattle.std.specs.Prelude.{◌≡◌, ℕ, List, [], ◌∷◌, ◌++◌, map, Option, Some, None, Result, Ok, Err}
 use Rattle.ob_model.specs.declared.endings.Ending.{Ending}
 use Rattle.ob_model.specs.declared.settings.Mode.TheVariants.{Boundless}
 use Rattle.ob_model.specs.declared.strays.Act.TheVariants as act
@@ -7,12 +7,11 @@ use Rattle.ob_model.specs.declared.strays.StrayEvent.{StrayEvent}
 use Rattle.ob_model.specs.Endings.{InputEnd}
 use Rattle.ob_code.specs.declared.image.Image.{Image}
 use Rattle.ob_code.specs.State.{Next, Setup, State, goes}
-use Rattle.ob_watch.specs.Watching.{Watch}
+use Rattle.ob_watch.specs.Watching.{Watch, after_events}
 use Rattle.ob_machine.specs.declared.execution.Execution.{Execution}
 use Rattle.ob_machine.specs.declared.ports.Fault.{Fault}
 use Rattle.ob_machine.specs.declared.ports.Fault.TheVariants.{Read, Write, Memory}
 use Rattle.ob_machine.specs.Executions.{Beside, Is, setup, state_of}
-use Rattle.ob_machine.specs.Machines.{after_events}
 
 -- the cycle of manufactured values, the place in it, and what the watchers saw
 pub record Audience : Type 0 where
@@ -23,7 +22,7 @@ pub record Audience : Type 0 where
 -- events were told, and the cycle is the same
 pub record Hears (h h' : Audience) (told : List StrayEvent) : Type 0 where
   pub cycle : h'.cycle ≡ h.cycle
-  pub seen : h'.seen ≡ after_events told h.seen
+  pub seen : h'.seen ≡ map (after_events told) h.seen
 
 abbrev pub events_of : Option StrayEvent → List StrayEvent
 events_of None = []

@@ -1,6 +1,6 @@
 -- A machine with an image, and what a run of it gives. The run is that of the flat machine's definition, on lists, for the
 -- machine's image and settings.
-use Rattle.std.specs.Prelude.{◌≡◌, ◌≢◌, ℕ, ◌+◌, ◌≤◌, ◌<◌, ◌==◌, Bool, true, false, List, [], ◌∷◌, ◌++◌, length, Option, Some, None, if◌then◌else◌}
+use Rattle.std.specs.Prelude.{◌≡◌, ◌≢◌, ℕ, ◌+◌, ◌≤◌, ◌<◌, ◌==◌, Bool, true, false, List, [], ◌∷◌, ◌++◌, length, map, Option, None, if◌then◌else◌}
 use Rattle.std.specs.Io.KnownBytes.{append_known}
 use Rattle.std.specs.List.{Contains}
 use Rattle.std.specs.Option.{option_map}
@@ -24,8 +24,7 @@ use Rattle.ob_code.specs.Kinds.{load_kind_of}
 use Rattle.ob_code.specs.Shown.{shown_word, static_word, variable_word}
 use Rattle.ob_code.specs.Start.{flat_final, laid_out}
 use Rattle.ob_code.specs.State.{Call, Final, Space}
-use Rattle.ob_watch.specs.Watching.{Watch}
-use Rattle.ob_telling.specs.Telling.{watches_after}
+use Rattle.ob_watch.specs.Watching.{Watch, after_events}
 use Rattle.ob_machine.specs.Devices.{IsInput, IsPartlySent}
 
 -- its image and settings, what its memory holds, whether nothing was run since it was loaded or reset, and how many
@@ -60,25 +59,20 @@ pub record Hearing : Type 0 where
   pub seen_before : List Watch
   pub seen_now : List Watch
 
--- each watcher was told these events, one after another
-abbrev pub after_events : List StrayEvent → List Watch → List Watch
-after_events [] ws = ws
-after_events (e ∷ es) ws = after_events es (watches_after (Some e) ws)
-
 -- the definition's run to its end: its ending, its whole output, its events, its place in the cycle, its memory and its number of
 -- instructions
 pub record IsDone (final : Final) (m after : MachineState) (e : Ending) (w : Writing) (h : Hearing) : Type 0 where
   pub ending : e ≡ final.ending
   pub output : IsWritten w final.state.output
   pub place : h.place_now ≡ final.state.cycle_place
-  pub events : h.seen_now ≡ after_events final.state.events h.seen_before
+  pub events : h.seen_now ≡ map (after_events final.state.events) h.seen_before
   pub machine : after ≡ used m final.state.space final.state.instructions
 
 -- what was told is a prefix of the run's events, and the place is one of the cycle
 pub record IsPartlyTold (events : List StrayEvent) (h : Hearing) : Type 0 where
   pub told : List StrayEvent
   pub begins : Begins told events
-  pub seen : h.seen_now ≡ after_events told h.seen_before
+  pub seen : h.seen_now ≡ map (after_events told) h.seen_before
   pub place : h.place_now < length h.cycle
 
 -- a write failed before the definition's run came to its end; memory is left as it was then

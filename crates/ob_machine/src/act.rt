@@ -51,7 +51,7 @@ pub(crate) enum Effect {
 
 impl Execution {
     /// The next instruction.
-    #[inline]
+    #[inline(always)]
     fn fetch(&self, image: &Image) -> Instr
         requires verified { IsVerified image.now }
         requires ready { IsReady image.now self.now }
@@ -119,7 +119,7 @@ impl Execution {
     }
 
     /// Does the next instruction, unless it needs a device, a maker or watchers. It takes no memory.
-    #[inline]
+    #[inline(always)]
     pub(crate) fn act(&mut self, image: &Image, arguments: &mut Vec<u64>) -> Effect
         requires verified { IsVerified image.now }
         requires ready { IsReady image.now self.old }

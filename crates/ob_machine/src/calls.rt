@@ -1,9 +1,9 @@
-ghost use Rattle.std.specs.Prelude.{◌≡◌, ◌+◌, ◌≤◌, ◌<◌, ◌^◌, length, slice_get, vec_len, vec_capacity};
+ghost use Rattle.std.specs.Prelude.{◌≡◌, ◌+◌, ◌≤◌, ◌<◌, ◌^◌, length, slice_get, vec_capacity};
 ghost use Rattle.ob_code.specs.Frames.{function_at, with_words, words_from};
 ghost use Rattle.ob_code.specs.Machine.{calling, entering, returned, result_word};
 ghost use Rattle.ob_space.specs.Loaded.{top_words};
 ghost use Rattle.ob_machine.specs.Executions.{Beside, Is, SameRows, state_of};
-ghost use Rattle.ob_machine.specs.Progress.{AreLinked, IsPlaced};
+ghost use Rattle.ob_machine.specs.Progress.{AreLinked};
 
 use crate::arithmetic::int_of;
 use crate::execution::Execution;

@@ -26,6 +26,7 @@ pub(crate) struct Execution {
 
 impl Execution {
     /// A word of the innermost call's frame.
+    #[inline(always)]
     pub(crate) fn word(&self, i: u32) -> u64
         requires { i < top_words self.now.space }
         ensures { result ≡ frame_word self.now.space.space i }
@@ -34,6 +35,7 @@ impl Execution {
     }
 
     /// Writes a word of that frame, and goes on to the next instruction.
+    #[inline(always)]
     pub(crate) fn set_word(&mut self, a: u32, w: u64)
         requires written { IsWritten (top_words self.old.space) a }
         requires counter { self.old.counter < 2 ^ 32 }
@@ -45,6 +47,7 @@ impl Execution {
     }
 
     /// Converts a word to a type.
+    #[inline(always)]
     pub(crate) fn convert(&mut self, t: IntType, a: u32, b: u32)
         requires written { IsWritten (top_words self.old.space) a }
         requires read { b < top_words self.old.space }
@@ -57,6 +60,7 @@ impl Execution {
     }
 
     /// Computes with two words in a type.
+    #[inline(always)]
     pub(crate) fn binary(
         &mut self,
         operator: BinOp,
@@ -80,6 +84,7 @@ impl Execution {
     }
 
     /// Compares two words in a type.
+    #[inline(always)]
     pub(crate) fn compare(&mut self, relation: Relation, t: IntType, a: u32, b: u32, c: u32)
         requires written { IsWritten (top_words self.old.space) a }
         requires left { b < top_words self.old.space }
@@ -126,6 +131,7 @@ impl Execution {
     }
 
     /// Goes to a place where word `b` is 0, and else on.
+    #[inline(always)]
     pub(crate) fn jump_zero(&mut self, b: u32, imm: i64)
         requires word { b < top_words self.old.space }
         requires counter { self.old.counter < 2 ^ 32 }
@@ -140,6 +146,7 @@ impl Execution {
     }
 
     /// Goes to a place where word `b` isn't 0, and else on.
+    #[inline(always)]
     pub(crate) fn jump_nonzero(&mut self, b: u32, imm: i64)
         requires word { b < top_words self.old.space }
         requires counter { self.old.counter < 2 ^ 32 }

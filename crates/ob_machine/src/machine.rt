@@ -4,7 +4,7 @@ ghost use Rattle.ob_model.specs.declared.endings.Ending.TheVariants as ending;
 ghost use Rattle.ob_model.specs.declared.settings.Mode.TheVariants.{Boundless};
 ghost use Rattle.ob_model.specs.Settings.{IsFit};
 ghost use Rattle.ob_code.specs.Frames.{function_at};
-ghost use Rattle.ob_code.specs.Rules.{IsVerified, name_at};
+ghost use Rattle.ob_code.specs.Rules.{name_at};
 ghost use Rattle.ob_code.specs.Shown.{top_number};
 ghost use Rattle.ob_code.specs.Start.{most_instructions};
 ghost use Rattle.ob_code.specs.declared.image.FunctionRow.{FunctionRow};

@@ -1,4 +1,4 @@
-ghost use Rattle.std.specs.Prelude.{◌≡◌, ◌<◌, ◌^◌, ℕ, List, map};
+ghost use Rattle.std.specs.Prelude.{◌<◌, ◌^◌, ℕ, List, map};
 ghost use Rattle.ob_words.specs.declared.types.IntType.TheVariants.{Long};
 ghost use Rattle.ob_model.specs.Accesses.{bytes_of_kind};
 ghost use Rattle.ob_code.specs.Accesses.{access};

@@ -1,4 +1,4 @@
-ghost use Rattle.std.specs.Prelude.{◌≡◌, ◌==◌, ◌≤◌, ◌<◌, ◌^◌, length, unsigned_abs};
+ghost use Rattle.std.specs.Prelude.{◌≡◌, ◌==◌, ◌≤◌, ◌<◌, ◌^◌, length};
 ghost use Rattle.ob_words.specs.Words.{word};
 ghost use Rattle.ob_words.specs.declared.types.IntType.TheVariants.{Long};
 ghost use Rattle.ob_model.specs.Pointers.{difference, pointers_compare};

@@ -1,8 +1,6 @@
-ghost use Rattle.std.specs.Prelude.{◌≡◌, ◌≢◌, ◌<◌, ◌≤◌, ◌+◌, ◌^◌, ◌%◌, [], length, vec_capacity, IfOk, MatchResult};
-ghost use Rattle.std.specs.Io.KnownBytes.{prepend_known};
+ghost use Rattle.std.specs.Prelude.{◌≡◌, ◌<◌, ◌≤◌, ◌^◌, ◌%◌, [], length, vec_capacity, IfOk};
 ghost use Rattle.ob_code.specs.Machine.{get, get_char, put_char, ticked};
 ghost use Rattle.ob_code.specs.Rules.{IsWritten};
-ghost use Rattle.ob_model.specs.Endings.{InputEnd};
 ghost use Rattle.ob_space.specs.Loaded.{top_words};
 ghost use Rattle.ob_machine.specs.Buffers.{IsUsedUp, nothing_read};
 ghost use Rattle.ob_machine.specs.Exchanges.{Answers, KnowsEnd, Puts, Refills, devices};

@@ -1,4 +1,4 @@
-ghost use Rattle.std.specs.Prelude.{◌≡◌, ◌+◌, ◌*◌, ◌<◌, ◌≤◌, ◌^◌, [], length, map, vec_capacity, IfNone};
+ghost use Rattle.std.specs.Prelude.{◌≡◌, ◌+◌, ◌*◌, ◌<◌, ◌^◌, [], length, map, vec_capacity, IfNone};
 ghost use Rattle.ob_code.specs.Machine.{after, runs};
 ghost use Rattle.ob_code.specs.Rules.{IsVerified};
 ghost use Rattle.ob_code.specs.Start.{started};
@@ -37,6 +37,7 @@ impl Execution {
     }
 
     /// Does at most `limit` instructions.
+    #[inline(never)]
     fn go<S: Source, K: Sink, M: Maker, W: Watcher>(
         &mut self,
         image: &Image,

@@ -15,7 +15,7 @@ use ob_watch::Watcher;
 
 impl Execution {
     /// Does one instruction.
-    #[inline]
+    #[inline(always)]
     pub(crate) fn step<S: Source, K: Sink, M: Maker, W: Watcher>(
         &mut self,
         image: &Image,

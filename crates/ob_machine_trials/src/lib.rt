@@ -4,4 +4,6 @@
 #![tactic(auto)]
 
 #[cfg(test)]
+mod strays;
+#[cfg(test)]
 mod tests;

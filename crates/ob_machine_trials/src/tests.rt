@@ -1,7 +1,9 @@
 //! That the calls find memory, how devices that fail end a run, that output goes out before a read, and which calls of
 //! its devices a run makes.
 
-use ob_base::{MemSink, MemSource, Sink, Source};
+ghost use Rattle.ob_model.specs.Settings.{IsFit};
+
+use ob_base::{MemSink, MemSource, Sink, Source, let_go};
 use ob_code::{FunctionRow, Image, Instr, Rows, verify};
 use ob_machine::Machine;
 use ob_maker::Zero;
@@ -70,9 +72,9 @@ fn image(alloc: Global, code: &[Instr]) -> Result<Image, AllocError> {
     functions.push(FunctionRow {
         entry: 0,
         params: 0,
-        words: 5,
+        words: 7,
         vars: 0,
-        allowance: 48,
+        allowance: 64,
         locals: Rows::from_vec(Vec::new(alloc)),
     })?;
     Ok(Image {
@@ -86,12 +88,19 @@ fn image(alloc: Global, code: &[Instr]) -> Result<Image, AllocError> {
     })
 }
 
-// A fresh machine with this code.
-fn loaded(rt: &impl Abort, alloc: Global, code: &[Instr]) -> Result<Machine, Fail> {
+/// A fresh machine with this code.
+pub fn loaded(
+    rt: &impl Abort,
+    alloc: Global,
+    code: &[Instr],
+    settings: &RunSettings,
+) -> Result<Machine, Fail>
+    requires { IsFit settings.now }
+{
     let v = verify(image(alloc, code)?)
         .ok()
         .expect(rt, "the image keeps the rules");
-    Ok(Machine::load(alloc, v, &SETTINGS)?)
+    Ok(Machine::load(alloc, v, settings)?)
 }
 
 const SETTINGS: RunSettings = RunSettings {
@@ -124,8 +133,10 @@ fn ending(
     input: &mut MemSource,
     out: &mut MemSink,
 ) -> Result<Ending, Fail> {
-    let mut machine = loaded(rt, alloc, code)?;
-    Ok(run_fresh(rt, alloc, &mut machine, input, out))
+    let mut machine = loaded(rt, alloc, code, &SETTINGS)?;
+    let came = run_fresh(rt, alloc, &mut machine, input, out);
+    let_go(machine);
+    Ok(came)
 }
 
 // The echo of `x`, one byte a call, takes 12 instructions.
@@ -137,17 +148,30 @@ fn echoes(rt: &impl Abort, alloc: Global, machine: &mut Machine) -> Result<(), F
     Ok(())
 }
 
-// How the echo ends on these devices, on a machine that ran before and was reset.
+// How the echo ends on these devices, on a machine with its code that runs before and is reset.
+fn runs_again(
+    rt: &impl Abort,
+    alloc: Global,
+    machine: &mut Machine,
+    input: &mut MemSource,
+    out: &mut MemSink,
+) -> Result<Ending, Fail> {
+    echoes(rt, alloc, machine)?;
+    machine.reset();
+    Ok(run_fresh(rt, alloc, machine, input, out))
+}
+
+// The same on a machine that is made for it.
 fn ending_again(
     rt: &impl Abort,
     alloc: Global,
     input: &mut MemSource,
     out: &mut MemSink,
 ) -> Result<Ending, Fail> {
-    let mut machine = loaded(rt, alloc, &ECHO)?;
-    echoes(rt, alloc, &mut machine)?;
-    machine.reset();
-    Ok(run_fresh(rt, alloc, &mut machine, input, out))
+    let mut machine = loaded(rt, alloc, &ECHO, &SETTINGS)?;
+    let came = runs_again(rt, alloc, &mut machine, input, out);
+    let_go(machine);
+    came
 }
 
 // The echo of `ab`, on devices that move one byte a call, whose read and write of these numbers fail.

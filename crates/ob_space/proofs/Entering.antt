@@ -1,8 +1,7 @@
 -- Entering a function.
-use Rattle.std.proofs.Common.{◌≡◌, ℕ, ◌+◌, ◌*◌, ◌<◌, ◌≤◌, ◌&&◌, Bool, true, false, nat_lt, List, [], ◌∷◌, length, map, All, arith, ap, sym, subst, ◌∙◌, refl, ⊎_elim, ◌⊎◌, inl, inr}
-use Rattle.std.specs.Prelude.{slice_index_or}
+use Rattle.std.proofs.Common.{◌≡◌, ℕ, ◌+◌, ◌<◌, ◌≤◌, true, false, List, length, map, All, arith, ap, subst, ◌∙◌, refl, ◌⊎◌, inl, inr}
 use Rattle.std.specs.List.{Contains}
-use Rattle.std.proofs.lemmas.List.Elements.{All-contains, All-weaker, All-contains_itself}
+use Rattle.std.proofs.lemmas.List.Elements.{All-contains, All-weaker}
 use Rattle.ob_model.specs.declared.objects.Entry.{Entry}
 use Rattle.ob_model.specs.declared.objects.Sort.{Sort}
 use Rattle.ob_model.specs.declared.objects.Sort.TheVariants.{Static, Automatic, Heap}
@@ -12,13 +11,12 @@ use Rattle.ob_model.specs.Objects.{is_among}
 use Rattle.ob_code.specs.declared.image.FunctionRow.{FunctionRow}
 use Rattle.ob_code.specs.declared.image.LocalRow.{LocalRow}
 use Rattle.ob_code.specs.Frames.{allowances, entered, frame_length, function_at, is_full, local_entry, next_base, with_locals}
-use Rattle.ob_code.specs.State.{Call}
 use Rattle.ob_frames.specs.Framed.{Framed, Enters, opened}
 use Rattle.ob_frames.specs.Kept.{IsFramed}
-use Rattle.ob_lifetimes.specs.Living.{AreKnown, AreOfRows, IsSound, LiesBySort, LiesOutside, Living}
+use Rattle.ob_lifetimes.specs.Living.{AreOfRows, IsSound, LiesBySort, LiesOutside, Living}
 use Rattle.ob_standing.specs.Laws.{IsGivenOut}
-use Rattle.ob_space.specs.Kept.{HasObjects, HaveObjects, IsKept, IsOfCall, IsOfCalls, LiesAsSort, LiesIn, loaded_in}
-use Rattle.ob_space.proofs.Framing.{frames_begin, more_rows_are_few, frames_end}
+use Rattle.ob_space.specs.Kept.{IsKept, LiesAsSort, LiesIn, loaded_in}
+use Rattle.ob_space.proofs.Framing.{frames_begin, frames_end}
 use Rattle.ob_space.proofs.Lists.{all_from_members, all_locals, contains_map, locals_known, locals_old}
 use Rattle.ob_space.proofs.Owning.{IsEntryOf, KeepsCalls, among_above, calls_stay, of_calls_end}
 

@@ -1,5 +1,5 @@
 -- Changes of bytes, slots and outside granules, which change no object.
-use Rattle.std.proofs.Common.{◌≡◌, ℕ, List, Result, Ok, Err, All, ap, sym, subst, ◌∙◌, refl, ℤ}
+use Rattle.std.proofs.Common.{◌≡◌, ℕ, List, Result, Ok, Err, All, ap, sym, subst, ◌∙◌, ℤ}
 use Rattle.std.specs.Prelude.{OnErr}
 use Rattle.std.proofs.lemmas.List.Elements.{All-weaker}
 use Rattle.ob_model.specs.declared.objects.Entry.{Entry}
@@ -10,7 +10,7 @@ use Rattle.ob_model.specs.Bounded.{Listed}
 use Rattle.ob_model.specs.Cells.{Content}
 use Rattle.ob_model.specs.Descriptors.{Slots}
 use Rattle.ob_flat.specs.Memory.{Memory}
-use Rattle.ob_code.specs.Pointers.{Shifted, shift}
+use Rattle.ob_code.specs.Pointers.{shift}
 use Rattle.ob_code.specs.State.{Space}
 use Rattle.ob_frames.specs.Framed.{Framed}
 use Rattle.ob_lifetimes.specs.Living.{Living, pointing_of}
@@ -18,7 +18,6 @@ use Rattle.ob_pointers.specs.declared.pointers.ShiftAnswer.{ShiftAnswer}
 use Rattle.ob_pointers.specs.Pointing.{Shifts, as_shifted}
 use Rattle.ob_standing.specs.Laws.{KeepsStanding, KeepsWhenShifted, MovesKeep}
 use Rattle.ob_space.specs.Kept.{IsAmongStatics, IsKept, LiesAsSort, LiesIn, loaded_in}
-use Rattle.ob_space.specs.Loaded.{Loaded}
 
 -- ---- bytes
 

@@ -1,6 +1,5 @@
 -- Leaving the innermost call.
-use Rattle.std.proofs.Common.{◌≡◌, ℕ, ◌+◌, ◌-◌, ◌<◌, ◌≤◌, Bool, true, false, not, List, [], ◌∷◌, length, All, arith, ap, sym, subst, ◌∙◌, refl, ⊎_elim, ◌⊎◌, inl, inr}
-use Rattle.std.specs.List.{Contains}
+use Rattle.std.proofs.Common.{◌≡◌, ℕ, ◌+◌, ◌-◌, ◌<◌, Bool, true, false, not, List, ◌∷◌, length, All, arith, ap, sym, subst, ◌∙◌, refl, ⊎_elim, ◌⊎◌, inr}
 use Rattle.std.proofs.lemmas.List.Elements.{All-contains}
 use Rattle.ob_model.specs.declared.objects.Entry.{Entry}
 use Rattle.ob_model.specs.declared.objects.Sort.{Sort}
@@ -20,7 +19,7 @@ use Rattle.ob_lifetimes.specs.Living.{Dies, Living}
 use Rattle.ob_space.specs.Kept.{HaveObjects, IsKept, IsOfCall, IsOfCalls, LiesAsSort, LiesIn, loaded_in, local_count}
 use Rattle.ob_space.specs.Loaded.{Loaded, left}
 use Rattle.ob_space.proofs.Lists.{all_from_members, contains_filter, contains_filtered, contains_image}
-use Rattle.ob_space.proofs.Owning.{IsEntryOf, KeepsCalls, among_is, among_not_below, calls_stay}
+use Rattle.ob_space.proofs.Owning.{KeepsCalls, among_is, among_not_below, calls_stay}
 
 -- ---- the frames before and after
 

@@ -1,5 +1,5 @@
 -- Calls whose link words are kept.
-use Rattle.std.proofs.Common.{◌≡◌, ℕ, ◌<◌, List, [], ◌∷◌, ◌++◌, length, subst}
+use Rattle.std.proofs.Common.{List, [], ◌∷◌, ◌++◌, subst}
 use Rattle.ob_flat.specs.Memory.{Memory}
 use Rattle.ob_code.specs.State.{Call}
 use Rattle.ob_frames.specs.Links.{AllHaveLinks, HasLinks, LinksAreKept}

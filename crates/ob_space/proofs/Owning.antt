@@ -1,6 +1,5 @@
 -- The objects of the calls in progress, through changes of the list of objects.
-use Rattle.std.proofs.Common.{◌≡◌, ℕ, ◌+◌, ◌<◌, ◌≤◌, ◌&&◌, Bool, true, false, nat_lt, nat_le, List, [], ◌∷◌, length, map, All, arith, ap, sym, subst, ◌∙◌, refl, ⊎_elim, ◌⊎◌, inl, inr}
-use Rattle.std.specs.Prelude.{slice_index_or}
+use Rattle.std.proofs.Common.{◌≡◌, ℕ, ◌+◌, ◌<◌, ◌≤◌, true, false, List, [], ◌∷◌, map, All, arith, sym, subst, refl, ⊎_elim, ◌⊎◌, inl, inr}
 use Rattle.std.specs.List.{Contains}
 use Rattle.std.proofs.lemmas.List.Elements.{All-contains, All-from_get_or}
 use Rattle.ob_model.specs.declared.objects.Entry.{Entry}
@@ -9,9 +8,9 @@ use Rattle.ob_model.specs.Entries.{Known}
 use Rattle.ob_model.specs.Objects.{is_among}
 use Rattle.ob_code.specs.declared.image.FunctionRow.{FunctionRow}
 use Rattle.ob_code.specs.declared.image.LocalRow.{LocalRow}
-use Rattle.ob_code.specs.Frames.{function_at, local_entry, next_base, frame_length, local_end}
+use Rattle.ob_code.specs.Frames.{function_at, local_entry, next_base, frame_length}
 use Rattle.ob_code.specs.Layout.{no_local}
-use Rattle.ob_code.specs.Rules.{IsFrameSound, local_at}
+use Rattle.ob_code.specs.Rules.{IsFrameSound}
 use Rattle.ob_code.specs.State.{Call}
 use Rattle.ob_frames.specs.Calls.{AreStacked}
 use Rattle.ob_lifetimes.specs.Living.{AreKnown, AreOfRows}

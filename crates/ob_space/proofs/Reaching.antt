@@ -1,5 +1,5 @@
 -- What an access that reaches a granule rests on.
-use Rattle.std.proofs.Common.{◌≡◌, ℕ, ◌+◌, ◌-◌, ◌*◌, ◌/◌, ◌%◌, ◌^◌, ◌<◌, ◌≤◌, ◌==◌, ◌&&◌, ◌||◌, Bool, true, false, not, cond, ℤ, pos, negsuc, ◌+ℤ◌, unsigned_abs, List, [], ◌∷◌, ◌++◌, length, Option, Some, None, All, arith, ap, sym, subst, ◌∙◌, refl, ⊎_elim, ◌⊎◌, inl, inr}
+use Rattle.std.proofs.Common.{◌≡◌, ℕ, ◌+◌, ◌-◌, ◌*◌, ◌/◌, ◌%◌, ◌<◌, ◌≤◌, ◌&&◌, ◌||◌, Bool, true, false, not, ℤ, pos, negsuc, ◌+ℤ◌, unsigned_abs, List, [], ◌∷◌, ◌++◌, length, Option, Some, None, All, arith, ap, refl, ⊎_elim, ◌⊎◌, inl, inr}
 use Rattle.std.specs.List.{Contains}
 use Rattle.std.specs.Prelude.{if◌then◌else◌, slice_index_or, IfSome}
 use Rattle.std.proofs.lemmas.Bool.{eqb-true, leb-true, ltb-true}
@@ -20,7 +20,7 @@ use Rattle.ob_flat.specs.Memory.{IsIn, IsWithin}
 use Rattle.ob_code.specs.declared.image.FunctionRow.{FunctionRow}
 use Rattle.ob_code.specs.Accesses as accesses
 use Rattle.ob_code.specs.Accesses.{Access, access_by, access_in, access_to}
-use Rattle.ob_code.specs.Frames.{function_at, local_end, local_entry}
+use Rattle.ob_code.specs.Frames.{function_at, local_entry}
 use Rattle.ob_code.specs.Layout.{no_local}
 use Rattle.ob_code.specs.Rules.{local_at}
 use Rattle.ob_code.specs.State.{Call}

@@ -1,14 +1,12 @@
 -- The bytes of static objects, and of local objects of the innermost call.
-use Rattle.std.proofs.Common.{◌≡◌, ℕ, zero, suc, ◌+◌, ◌*◌, ◌-◌, ◌/◌, ◌<◌, ◌≤◌, ◌%◌, List, [], ◌∷◌, length, take, arith, ap, sym, subst, ◌∙◌, refl, ⊎_elim, ◌⊎◌, inl, inr}
-use Rattle.std.specs.Prelude.{slice_index_or}
+use Rattle.std.proofs.Common.{◌≡◌, ℕ, zero, suc, ◌+◌, ◌-◌, ◌<◌, ◌≤◌, ◌%◌, List, [], ◌∷◌, length, take, arith, sym, subst, refl, ⊎_elim, ◌⊎◌, inl}
 use Rattle.ob_words.specs.Words.{block}
 use Rattle.ob_model.specs.declared.settings.RunSettings.{RunSettings}
 use Rattle.ob_model.specs.declared.values.LoadKind.{LoadKind}
 use Rattle.ob_model.specs.Accesses.{bytes_of_kind}
 use Rattle.ob_flat.specs.Memory.{IsIn, IsWithin}
-use Rattle.ob_code.specs.declared.image.LocalRow.{LocalRow}
 use Rattle.ob_code.specs.declared.image.StaticRow.{StaticRow}
-use Rattle.ob_code.specs.Frames.{function_at, local_end, top_base, top_function}
+use Rattle.ob_code.specs.Frames.{local_end, top_base, top_function}
 use Rattle.ob_code.specs.Layout.{static_base, static_blocks}
 use Rattle.ob_code.specs.Rules.{HasStatic, local_at, static_at}
 use Rattle.ob_code.specs.State.{Call}
@@ -18,7 +16,7 @@ use Rattle.ob_frames.specs.Laws.{LocalsLieInMemory, LocalsMeetNoLink}
 use Rattle.ob_frames.specs.Links.{MeetsNoLink}
 use Rattle.ob_lifetimes.specs.Living.{Living}
 use Rattle.ob_space.specs.Kept.{loaded_in}
-use Rattle.ob_space.specs.Loaded.{IsLocalOf, IsShowable, IsStaticOf, Loaded}
+use Rattle.ob_space.specs.Loaded.{IsLocalOf, IsShowable, IsStaticOf}
 use Rattle.ob_space.proofs.Framing.{frames_in_blocks}
 
 -- ---- local objects

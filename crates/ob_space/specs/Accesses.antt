@@ -1,5 +1,5 @@
 -- Checked loads and stores of a space, over the definition of the machine.
-use Rattle.std.specs.Prelude.{◌≡◌, ◌≢◌, ℕ, ◌+◌, ◌*◌, ◌≤◌, Bool, true, false, ℤ, List, Option, Some, None}
+use Rattle.std.specs.Prelude.{◌≡◌, ℕ, ◌+◌, ◌*◌, ◌≤◌, false, ℤ, List, Option, Some, None}
 use Rattle.std.specs.List.{AllPairs, Contains}
 use Rattle.ob_model.specs.declared.settings.Mode.TheVariants.{Boundless}
 use Rattle.ob_model.specs.declared.strays.Act.TheVariants as act

@@ -1,8 +1,6 @@
 -- What a space is seen as: the rows of the image that memory is laid out by, the settings, and what memory holds.
-use Rattle.std.specs.Prelude.{◌≡◌, ℕ, ◌+◌, ◌-◌, ◌⊎◌, ◌≤◌, ◌<◌, Bool, true, false, ℤ, List, [], ◌∷◌, length, Option, Some, None, Result, Ok, Err}
-use Rattle.std.specs.Option.{option_map}
+use Rattle.std.specs.Prelude.{◌≡◌, ℕ, ◌+◌, ◌-◌, ◌⊎◌, ◌≤◌, ◌<◌, true, false, ℤ, List, [], ◌∷◌, length, Option, Some, None, Result}
 use Rattle.ob_model.specs.declared.settings.RunSettings.{RunSettings}
-use Rattle.ob_model.specs.declared.strays.StrayEvent.{StrayEvent}
 use Rattle.ob_model.specs.declared.values.LoadKind.{LoadKind}
 use Rattle.ob_model.specs.declared.values.Value.{Value}
 use Rattle.ob_model.specs.Accesses.{bytes_of_kind}
@@ -12,12 +10,12 @@ use Rattle.ob_code.specs.declared.image.FunctionRow.{FunctionRow}
 use Rattle.ob_code.specs.declared.image.Image.{Image}
 use Rattle.ob_code.specs.declared.image.PointerRow.{PointerRow}
 use Rattle.ob_code.specs.declared.image.StaticRow.{StaticRow}
-use Rattle.ob_code.specs.Allocation.{Freeing, freeing, free_event, allocated_at, place_word, space_after_free}
+use Rattle.ob_code.specs.Allocation.{Freeing, freeing, space_after_free}
 use Rattle.ob_code.specs.Layout.{static_base, local_at, local_base}
 use Rattle.ob_code.specs.Rules.{HasStatic, static_at}
 use Rattle.ob_code.specs.Frames.{entered, is_full, left_call, top_function}
 use Rattle.ob_code.specs.Pointers as pointers
-use Rattle.ob_code.specs.Pointers.{Shifted, pointer_of, resolve, shift}
+use Rattle.ob_code.specs.Pointers.{pointer_of, resolve, shift}
 use Rattle.ob_code.specs.Start.{laid_out}
 use Rattle.ob_code.specs.State.{Call, Space}
 use Rattle.ob_pointers.specs.declared.pointers.ShiftAnswer.{ShiftAnswer}

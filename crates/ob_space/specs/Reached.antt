@@ -1,5 +1,5 @@
 -- What an access that reaches a granule rests on. Serves the proof.
-use Rattle.std.specs.Prelude.{◌≡◌, ℕ, ◌+◌, ◌-◌, ◌%◌, true}
+use Rattle.std.specs.Prelude.{◌≡◌, ℕ, ◌%◌, true}
 use Rattle.ob_model.specs.declared.settings.Mode.TheVariants.{Boundless}
 use Rattle.ob_model.specs.declared.values.LoadKind.{LoadKind}
 use Rattle.ob_model.specs.Accesses.{bytes_of_kind, is_aligned}

@@ -152,26 +152,62 @@ fn overruns(rt: HostRuntime) -> Result<(), Fail> {
     Ok(())
 }
 
-#[test]
-fn slow_and_failing_devices(rt: HostRuntime) -> Result<(), Fail> {
-    let alloc = rt.alloc();
+const REPORT: &str = "watcher 0: 0 events\nwatcher 1: 0 events\n";
+
+// The words of an echo of two bytes by devices that give and take one at a time; which device fails (0 the
+// folder, 1 the input, 2 the output, 3 the error sink) and at which of its calls; the status, and what the
+// sinks took. The rows have each call that the run makes of the first three, and one behind the last, which
+// it doesn't make.
+const FAILURES: [(&str, u8, u64, u8, &str, &str); 14] = [
+    ("exec an.image", 0, 0, 129, "", "oblivious: FileFault\n"),
+    ("exec an.image", 0, 1, 0, "ab", ""),
+    ("exec an.image", 1, 0, 142, "", "oblivious: ReadFault\n"),
+    ("exec an.image", 1, 1, 142, "a", "oblivious: ReadFault\n"),
+    ("exec an.image", 1, 2, 142, "ab", "oblivious: ReadFault\n"),
+    ("exec an.image", 1, 3, 0, "ab", ""),
+    ("exec an.image", 2, 0, 143, "", ""),
+    ("exec an.image", 2, 1, 143, "a", ""),
+    ("exec an.image", 2, 2, 0, "ab", ""),
+    ("exec an.image --report", 3, 0, 143, "ab", ""),
+    (
+        "exec an.image --report",
+        3,
+        20,
+        143,
+        "ab",
+        "watcher 0: 0 events\n",
+    ),
+    ("exec an.image --report", 3, 40, 0, "ab", REPORT),
+    ("exec an.image --steps 0", 3, 0, 143, "", ""),
+    ("exec gone.image", 3, 11, 143, "", "oblivious: "),
+];
+
+/// Runs the echo where a device fails at a call.
+fn echoed(alloc: Global, line: &str, device: u8, call: u64) -> Result<Ran, NoMemory> {
     let bytes = image(alloc, &ECHO)?;
+    let fails = [call];
     let mut devices = sound();
-    devices.input = b"echoed";
+    devices.input = b"ab";
     devices.most = 1;
-    let slow = exec(alloc, "exec an.image", &bytes, &devices)?;
-    assert_eq!(rt; (slow.status, slow.out.as_str()), (0, "echoed"));
+    match device {
+        0 => devices.loads = &fails,
+        1 => devices.reads = &fails,
+        2 => devices.outs = &fails,
+        _ => devices.errs = &fails,
+    }
+    exec(alloc, line, &bytes, &devices)
+}
 
-    devices.reads = &[2];
-    let read = exec(alloc, "exec an.image", &bytes, &devices)?;
-    assert_eq!(rt; (read.status, read.out.as_str()), (142, "ec"));
-    assert_eq!(rt; read.err.as_str(), "oblivious: ReadFault\n");
-
-    devices.reads = &[];
-    devices.outs = &[3];
-    let written = exec(alloc, "exec an.image", &bytes, &devices)?;
-    assert_eq!(rt; (written.status, written.out.as_str()), (143, "ech"));
-    assert_eq!(rt; written.err.as_str(), "");
+#[test]
+fn devices_that_fail_at_each_call(rt: HostRuntime) -> Result<(), Fail> {
+    for (line, device, call, status, out, err) in &FAILURES {
+        let came = echoed(rt.alloc(), line, *device, *call)?;
+        assert_eq!(rt;
+            (came.status, came.out.as_str(), came.err.as_str()),
+            (*status, *out, *err),
+            "at {line}"
+        );
+    }
     Ok(())
 }
 

@@ -1,4 +1,3 @@
-use Rattle.std.proofs.Common.{sym}
 use Rattle.ob_space.proofs.Laying.{kept_cleared, view_cleared}
 use Rattle.ob_space.proofs.space.Space.clear.Goals as goal
 

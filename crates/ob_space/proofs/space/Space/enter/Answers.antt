@@ -1,10 +1,6 @@
-use Rattle.std.proofs.Common.{◌≡◌, ◌+◌, ◌<◌, ◌≤◌, length, arith, ap, sym, subst, ◌∙◌}
-use Rattle.ob_code.specs.declared.image.FunctionRow.{FunctionRow}
-use Rattle.ob_code.specs.Frames.{entered, frame_length, function_at, next_base}
-use Rattle.ob_code.specs.Rules.{IsFrameSound}
+use Rattle.std.proofs.Common.{◌≡◌, ◌+◌, ◌<◌, length, arith, sym, subst}
+use Rattle.ob_code.specs.Frames.{frame_length, function_at, next_base}
 use Rattle.ob_code.specs.State.{Space}
-use Rattle.ob_frames.specs.Framed.{Enters, Framed}
-use Rattle.ob_lifetimes.specs.Living.{LiesOutside}
 use Rattle.ob_standing.specs.Laws.{KeepsStanding}
 use Rattle.ob_space.specs.Kept.{loaded_in}
 use Rattle.ob_space.specs.Loaded.{Loaded}

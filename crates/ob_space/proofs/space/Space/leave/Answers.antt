@@ -1,14 +1,11 @@
-use Rattle.std.proofs.Common.{◌≡◌, ◌+◌, ◌<◌, ◌≤◌, List, length, refl, arith, ap, sym, subst, ◌∙◌}
-use Rattle.ob_model.specs.Entries.{Known}
+use Rattle.std.proofs.Common.{◌≡◌, length, sym, subst}
 use Rattle.ob_model.specs.Objects.{is_among}
 use Rattle.ob_code.specs.declared.image.FunctionRow.{FunctionRow}
-use Rattle.ob_code.specs.Frames.{function_at, left_call}
-use Rattle.ob_code.specs.State.{Call, Space}
-use Rattle.ob_frames.specs.Framed.{Framed, Leaves, call_of}
-use Rattle.ob_lifetimes.specs.Living.{AreKnown, AreOfRows, Dies}
-use Rattle.ob_standing.specs.Laws.{AreGivenOut, IsGivenOut, KeepsStanding}
+use Rattle.ob_frames.specs.Framed.{call_of}
+use Rattle.ob_lifetimes.specs.Living.{AreKnown, Dies}
+use Rattle.ob_standing.specs.Laws.{KeepsStanding}
 use Rattle.ob_space.specs.Kept.{loaded_in}
-use Rattle.ob_space.specs.Loaded.{Loaded, left}
+use Rattle.ob_space.specs.Loaded.{Loaded}
 use Rattle.ob_space.proofs.Leaving.{DiesAt, head_objects, kept_left, left_keeps, row_left, row_of, view_left}
 use Rattle.ob_space.proofs.space.Space.leave.Goals as goal
 

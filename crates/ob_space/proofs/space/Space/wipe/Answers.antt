@@ -1,6 +1,6 @@
-use Rattle.std.proofs.Common.{◌≡◌, ◌+◌, ◌*◌, ◌<◌, ◌≤◌, ◌%◌, length, arith, refl, sym, subst}
+use Rattle.std.proofs.Common.{◌≡◌, ◌*◌, ◌<◌, ◌≤◌, length, arith, refl, sym, subst}
 use Rattle.ob_words.specs.Words.{block}
-use Rattle.ob_code.specs.Frames.{local_end, top_base, top_function}
+use Rattle.ob_code.specs.Frames.{top_function}
 use Rattle.ob_code.specs.Rules.{local_at}
 use Rattle.ob_space.specs.Loaded.{Loaded}
 use Rattle.ob_space.proofs.Keeping.{kept_memory}

@@ -1,5 +1,5 @@
 use Rattle.std.proofs.Common.{◌≡◌, ap, sym, subst}
-use Rattle.ob_flat.specs.Memory.{IsIn, Memory}
+use Rattle.ob_flat.specs.Memory.{IsIn}
 use Rattle.ob_code.specs.Accesses.{write_memory}
 use Rattle.ob_frames.specs.Framed.{Framed}
 use Rattle.ob_space.specs.Granules.{granule_start}

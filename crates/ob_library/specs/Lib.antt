@@ -1,0 +1,9 @@
+pub mod Nodes
+pub mod Strings
+pub mod Copies
+pub mod Printing
+pub mod Numbers
+pub mod Library
+pub mod Texts
+pub mod Nowhere
+pub mod Lists
