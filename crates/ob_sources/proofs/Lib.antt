@@ -1,0 +1,6 @@
+pub mod Stages
+mod Positions
+pub mod FewKinds
+pub mod Faults
+mod OneProgram
+mod SomeProgram
