@@ -4,8 +4,8 @@ use Rattle.ob_words.specs.Words.{block}
 use Rattle.ob_tree.specs.Sizes.{size}
 use Rattle.ob_tree.specs.Types.{PlainStructs}
 use Rattle.ob_typed.specs.TypedTree.{TypedFunction, TypedObject, TypedProgram}
-use Rattle.ob_limits.specs.declared.limits.Limit.{Limit}
-use Rattle.ob_limits.specs.declared.limits.Limit.TheVariants as over
+use Rattle.ob_limits.specs.declared.limit.Limit.{Limit}
+use Rattle.ob_limits.specs.declared.limit.Limit.TheVariants as over
 
 -- the bytes that static objects take in all
 abbrev pub most_static_bytes : ℕ

@@ -6,6 +6,6 @@
 //! To be believed: `Limits`, over the typed programs of `ob_typed` and the sizes of `ob_tree`.
 #![tactic(auto)]
 
-pub use limits::{Limit, check_limits};
+pub use limit::{Limit, limits};
 
-mod limits;
+mod limit;

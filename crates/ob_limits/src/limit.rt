@@ -31,7 +31,7 @@ pub enum Limit {
 
 /// Whether a program keeps the limits. `Statics` says that the blocks of its static objects have more than 4,194,304
 /// bytes, and `Code` that they haven't, and that its functions weigh more than 1,048,576. Takes no memory.
-pub fn check_limits(t: &Typed) -> Result<(), Limit>
+pub fn limits(t: &Typed) -> Result<(), Limit>
     ensures { MatchResult result (λ _. IsWithinLimits (typed_program t.now)) (IsOver (typed_program t.now)) }
 {
     if has_great_statics(t) {
