@@ -2,5 +2,5 @@ pub mod Stages
 mod Positions
 pub mod FewKinds
 pub mod Faults
-mod OneProgram
-mod SomeProgram
+pub mod OneProgram
+pub mod SomeProgram

@@ -25,7 +25,7 @@ same_lex text k l x y h i =
 no_fault : (text : List ℕ) (ts : List Token) (k : LexKind) (x : Position) → IsLexed text (Ok ts) → HasLexFaultAt text k x → ⊥
 no_fault text ts k x s h = spells-no-fault text ts k h.at s h.stops
 
-one_lexed : (text : List ℕ) → OneOutcome (IsLexed text)
+pub one_lexed : (text : List ℕ) → OneOutcome (IsLexed text)
 one_lexed text (Ok ts) (Ok us) h i = ap Ok (spells-same text ts us h i)
 one_lexed text (Ok ts) (Err (Lex k a b)) h i = absurd (no_fault text ts k (record { line = a; column = b }) h i)
 one_lexed text (Err (Lex k a b)) (Ok us) h i = absurd (no_fault text us k (record { line = a; column = b }) i h)
@@ -64,7 +64,7 @@ same_syntax text ts k l x y h i =
     let places : x ≡ y = h.position_is ∙ ap (λ n. position_at text ts n) same.1 ∙ sym i.position_is in
     ap (λ kind. Syntax kind x.line x.column) kinds ∙ ap (λ (p : Position). Syntax l p.line p.column) places
 
-one_parsed : (text : List ℕ) (ts : List Token) → OneOutcome (IsParsed text ts)
+pub one_parsed : (text : List ℕ) (ts : List Token) → OneOutcome (IsParsed text ts)
 one_parsed text ts (Ok p) (Ok q) h i = ap Ok (same_program ts p q (one-answer ts (Answer.Parsed p) (Answer.Parsed q) h i))
 one_parsed text ts (Ok p) (Err (Syntax k a b)) h i = absurd (no_tree text ts p k (record { line = a; column = b }) h i)
 one_parsed text ts (Err (Syntax k a b)) (Ok q) h i = absurd (no_tree text ts q k (record { line = a; column = b }) i h)

@@ -15,14 +15,14 @@ use Rattle.ob_sources.specs.Positions.{position_at, position_behind}
 use Rattle.ob_sources.specs.Reading.{IsLexed, IsParsed, IsRead}
 use Rattle.ob_sources.proofs.Stages.{SomeOutcome, some_then}
 
-some_lexed : (text : List ℕ) → SomeOutcome (IsLexed text)
+pub some_lexed : (text : List ℕ) → SomeOutcome (IsLexed text)
 some_lexed text = by (some-reading text)
   where
     by : ((ts : List Token) × Spells ts text) ⊎ ((kind : LexKind) × (at : ℕ) × StopsAt text kind at) → SomeOutcome (IsLexed text)
     by (inl s) = (Ok s.0, s.1)
     by (inr s) = let x : Position = position_behind (take s.1 text) in (Err (Lex s.0 x.line x.column), record { at = s.1; stops = s.2; position_is = refl })
 
-some_parsed : (text : List ℕ) → length text ≤ 2 ^ 20 → (ts : List Token) → Spells ts text → SomeOutcome (IsParsed text ts)
+pub some_parsed : (text : List ℕ) → length text ≤ 2 ^ 20 → (ts : List Token) → Spells ts text → SomeOutcome (IsParsed text ts)
 some_parsed text short ts s = let answer = some-answer ts (spells-of-source text ts short s) in by answer.0 answer.1
   where
     by : (a : Answer) → IsAnswer ts a → SomeOutcome (IsParsed text ts)
