@@ -69,14 +69,14 @@ module _ {A B : Type 0} (first : Outcome A → Type 0) (second : A → Outcome B
   never_then one other (passes x h s) = other x s
   never_then one other (stops g h is) = one (subst (λ (e : SourceFault). first (Err e)) (sym (same_source_fault f g is)) h)
 
-is_typing : SourceFault → Type 0
-is_typing (Typing k l c) = Unit {0}
-is_typing _ = ⊥
+abbrev pub IsOfTypes : SourceFault → Type 0
+IsOfTypes (Typing k l c) = Unit {0}
+IsOfTypes _ = ⊥
 
-no_other : (text : List ℕ) (ts : List Token) (p : ProgramTree) (f : SourceFault) → (is_typing f → ⊥) → HasTypeFault text ts p f → ⊥
-no_other text ts p f other h = other (subst is_typing (sym h.fault_is) tt)
+no_other : (text : List ℕ) (ts : List Token) (p : ProgramTree) (f : SourceFault) → (IsOfTypes f → ⊥) → HasTypeFault text ts p f → ⊥
+no_other text ts p f other h = other (subst IsOfTypes (sym h.fault_is) tt)
 
-pub never_typed : (text : List ℕ) (f : SourceFault) → (IsLexed text (Err f) → ⊥) → ((ts : List Token) → IsParsed text ts (Err f) → ⊥) → (is_typing f → ⊥) → IsTyped text (Err f) → ⊥
+pub never_typed : (text : List ℕ) (f : SourceFault) → (IsLexed text (Err f) → ⊥) → ((ts : List Token) → IsParsed text ts (Err f) → ⊥) → (IsOfTypes f → ⊥) → IsTyped text (Err f) → ⊥
 never_typed text f lexed parsed other =
     never_then (IsLexed text) (λ ts. Then (IsParsed text ts) (λ p. IsChecked text ts (complete p))) f lexed
     (λ ts. never_then (IsParsed text ts) (λ p. IsChecked text ts (complete p)) f (parsed ts) (λ p. no_other text ts (complete p) f other))

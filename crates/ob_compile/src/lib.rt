@@ -7,8 +7,8 @@
 //! of `ob_sources`, `Completion` of `ob_prelude`, `Typing` of `ob_typed` and `Limits` of `ob_limits`.
 #![tactic(auto)]
 
-pub use stages::{accept, front};
 pub use laws::{law_before_limits, law_one_outcome, law_some_outcome};
+pub use stages::{accept, front};
 
-mod stages;
 mod laws;
+mod stages;

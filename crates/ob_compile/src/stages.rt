@@ -8,7 +8,7 @@ ghost use Rattle.ob_compile.specs.Accepted.{Accepted, ComesTo, IsChecked, IsLimi
 
 use ob_base::NoMemory;
 use ob_limits::{Limit, limits};
-use ob_prelude::complete;
+use ob_prelude::{complete, law_completion};
 use ob_sources::{Source, position_at, read};
 use ob_tree::{Program, SourceFault, Token, TypeFault, TypeKind};
 use ob_typed::Typed;
@@ -68,6 +68,7 @@ fn typed(alloc: Global, bytes: &[u8], source: Source) -> Result<Typed, SourceFau
     requires program { IsParsed bytes.now source.tokens.items (Ok (program_tree source.program)) }
     ensures { MatchResult result (λ t. IsTyped bytes.now (Ok (typed_program t))) (MayStop (IsTyped bytes.now)) }
 {
+    law_completion();
     let Source { tokens, program } = source;
     match complete(alloc, program) {
         Ok(whole) => checked(alloc, bytes, &tokens, &whole),
