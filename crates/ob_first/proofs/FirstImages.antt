@@ -13,8 +13,7 @@ use Rattle.ob_first.specs.FirstCode.{first_code, only_main, code_of}
 use Rattle.ob_first.specs.FirstForm.{FirstForm, HasFirstForm, first_kinds}
 use Rattle.ob_first.specs.FirstReading.{Reading, ended, read_all}
 use Rattle.ob_first.specs.Sources.{FirstFormsRun, IsOfForm, PrintsAreFew}
-use Rattle.ob_lexer.proofs.SourceTokens.{spells-few}
-use Rattle.ob_first.proofs.Sources.{few_kinds as few_kinds_of}
+use Rattle.ob_sources.proofs.FewKinds.{few_of_text as few_kinds_of_text}
 use Rattle.ob_first.proofs.FirstForms.{IsRead, is_read}
 use Rattle.ob_first.proofs.FirstReadings.{at_same, read_first_form}
 use Rattle.ob_first.proofs.FirstRuns.{prints}
@@ -66,9 +65,7 @@ module _ (p : ProgramTree) (kinds : List TokenKind) (code : List Instr) (image :
 -- ---- a text of the first form
 
 few_tokens : (text : List ℕ) (form : FirstForm) → length text ≤ 2 ^ 20 → (is : IsOfForm text form) → length (spell_program is.program) ≤ 2 ^ 20
-few_tokens text form short is =
-    let of_tokens = is.is_text.parses in
-    few_kinds_of is.is_text.tokens is.program of_tokens.answered.0 (spells-few text is.is_text.tokens short of_tokens.spelled)
+few_tokens text form short is = few_kinds_of_text text is.program short is.is_text
 
 pub few_of_text : PrintsAreFew
 few_of_text text form short is = few_prints is.program form is.has_form (few_tokens text form short is)

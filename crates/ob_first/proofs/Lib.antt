@@ -1,5 +1,4 @@
-mod Positions
-mod Sources
+mod Refusing
 mod FirstReadings
 mod FirstForms
 mod FirstVerified

@@ -1,68 +1,22 @@
 -- What the text of a source comes to: a fault of its tokens or of its syntax, at the place where that stands; a program that
 -- can't be compiled yet; or a program that is compiled.
-use Rattle.std.specs.Prelude.{◌≡◌, ℕ, ◌≤◌, ◌<◌, ◌^◌, List, [], length, take, Option, Some, None, slice_get}
+use Rattle.std.specs.Prelude.{◌≡◌, ℕ, ◌≤◌, ◌<◌, ◌^◌, List, length, Ok, Err}
 use Rattle.ob_code.specs.declared.image.Image.{Image}
 use Rattle.ob_tree.specs.Programs.{ProgramTree}
-use Rattle.ob_tree.specs.declared.tokens.Span.{Span}
-use Rattle.ob_tree.specs.declared.tokens.Token.{Token}
-use Rattle.ob_tree.specs.declared.faults.LexKind.{LexKind}
 use Rattle.ob_tree.specs.declared.faults.SourceFault.{SourceFault}
 use Rattle.ob_tree.specs.declared.faults.SourceFault.TheVariants as source
-use Rattle.ob_tree.specs.declared.faults.SyntaxKind.{SyntaxKind}
-use Rattle.ob_tree.specs.declared.faults.SyntaxKind.TheVariants as syntax
-use Rattle.ob_lexer.specs.Texts.{Spells, StopsAt, span_of}
-use Rattle.ob_parser.specs.Answer.{Answer, IsAnswer}
+use Rattle.ob_sources.specs.Reading.{IsRead}
 use Rattle.ob_first.specs.FirstForm.{FirstForm, HasFirstForm}
 use Rattle.ob_first.specs.FirstCode.{code_of}
 use Rattle.ob_first.specs.FirstRun.{Prints}
 use Rattle.ob_first.specs.declared.refusal.Refusal.{Refusal}
 use Rattle.ob_first.specs.declared.refusal.Refusal.TheVariants.{Fault, NotYet}
-use Rattle.ob_first.specs.declared.refusal.Position.{Position}
-
--- ---- places
-
--- where a span begins
-abbrev pub begin_of : Span → Position
-begin_of span = record { line = span.line; column = span.column }
-
--- the place behind these bytes
-abbrev pub position_behind : List ℕ → Position
-position_behind before = begin_of (span_of before [])
-
--- the place of a token of the text; where there is none, the place behind the text
-abbrev pub position_of : List ℕ → Option Token → Position
-position_of text (Some token) = begin_of token.span
-position_of text None = position_behind text
 
 -- ---- what a text is
 
--- the tokens of a text have this answer of the parser
-pub record Parses (text : List ℕ) (tokens : List Token) (answer : Answer) : Type 0 where
-  pub spelled : Spells tokens text
-  pub answered : IsAnswer tokens answer
-
 -- the text is that of a program whose paths keep the limit
-pub record IsTextOf (text : List ℕ) (program : ProgramTree) : Type 0 where
-  pub tokens : List Token
-  pub parses : Parses text tokens (Answer.Parsed program)
-
--- a fault of this kind at a token, counted from 0
-abbrev pub fault_answer : SyntaxKind → ℕ → Answer
-fault_answer syntax.NoTree at = Answer.NoTree at
-fault_answer syntax.TooDeep at = Answer.TooDeep at
-
--- no token can be taken at a place of the text
-pub record HasLexFaultAt (text : List ℕ) (kind : LexKind) (position : Position) : Type 0 where
-  pub at : ℕ
-  pub stops : StopsAt text kind at
-  pub position_is : position ≡ position_behind (take at text)
-
--- no program goes on with a token of the text
-pub record HasSyntaxFaultAt (text : List ℕ) (kind : SyntaxKind) (position : Position) : Type 0 where
-  pub tokens : List Token
-  pub at : ℕ
-  pub parses : Parses text tokens (fault_answer kind at)
-  pub position_is : position ≡ position_of text (slice_get tokens at)
+abbrev pub IsTextOf : (text : List ℕ) → (program : ProgramTree) → Type 0
+IsTextOf text program = IsRead text (Ok program)
 
 -- the text is that of a program of no first form
 pub record IsOfNoForm (text : List ℕ) : Type 0 where
@@ -80,8 +34,8 @@ pub record IsOfForm (text : List ℕ) (form : FirstForm) : Type 0 where
 
 -- this is the fault of the text; the compiler of today finds no others, and want of memory is none of the text's
 abbrev pub IsFaultOf : List ℕ → SourceFault → Type 0
-IsFaultOf text (source.Lex kind line column) = HasLexFaultAt text kind (record { line = line; column = column })
-IsFaultOf text (source.Syntax kind line column) = HasSyntaxFaultAt text kind (record { line = line; column = column })
+IsFaultOf text (source.Lex kind line column) = IsRead text (Err (source.Lex kind line column))
+IsFaultOf text (source.Syntax kind line column) = IsRead text (Err (source.Syntax kind line column))
 IsFaultOf text (source.Typing kind line column) = ⊥
 IsFaultOf text source.Statics = ⊥
 IsFaultOf text source.Code = ⊥

@@ -2,10 +2,10 @@ ghost use Rattle.std.specs.Prelude.{◌≤◌, ◌^◌, length, MatchResult};
 ghost use Rattle.ob_first.specs.Sources.{IsCompiled, Refuses};
 
 use crate::first_form::first_image;
-use crate::front::front;
 use crate::refusal::Refusal;
 use ob_base::NoMemory;
 use ob_code::Verified;
+use ob_sources::read;
 use ob_tree::SourceFault;
 use std::alloc::Global;
 
@@ -18,11 +18,11 @@ pub fn compile_first(alloc: Global, bytes: &[u8]) -> Result<Verified, Refusal>
     requires { length bytes.now ≤ 2 ^ 20 }
     ensures { MatchResult result (IsCompiled bytes.now) (Refuses bytes.now) }
 {
-    let program = match front(alloc, bytes) {
-        Ok(program) => program,
+    let source = match read(alloc, bytes) {
+        Ok(source) => source,
         Err(fault) => return Err(Refusal::Fault(fault)),
     };
-    match first_image(alloc, &program) {
+    match first_image(alloc, &source.program) {
         Ok(Some(image)) => Ok(image),
         Ok(None) => Err(Refusal::NotYet),
         Err(NoMemory) => Err(Refusal::Fault(SourceFault::NoMemory)),

@@ -5,7 +5,7 @@
 //!
 //! To be believed: of specs/ FirstForm (which programs have the form, and what they do), FirstRun (an image
 //! that does the same) and Sources (what a text comes to). FirstCode has the image, FirstReading serves the
-//! proof. Stands on `ob_lexer` and `ob_parser` for the source, on `ob_code`, `ob_frames` and `ob_flat` for
+//! proof. Stands on `ob_sources` for the source, on `ob_code`, `ob_frames` and `ob_flat` for
 //! images and their runs, and on what these stand on.
 #![tactic(auto)]
 
@@ -15,6 +15,5 @@ pub use refusal::Refusal;
 
 mod compile;
 mod first_form;
-mod front;
 mod laws;
 mod refusal;

@@ -31,6 +31,14 @@ unfolding tree_of
 spelled lines f.Strlen = refl
 spelled lines _ = refl
 
+valid_fits : (g : LibraryFunction) → IsTrue (item_fits (tree_of g))
+unfolding tree_of is_digit is_letter is_name_byte
+valid_fits f.Strlen = refl
+valid_fits _ = refl
+
+pub returns-clause-valid : goal.returns-clause-valid
+returns-clause-valid c g = item_valid (tree_of g) (valid_fits g)
+
 pub returns-clause-program : goal.returns-clause-program
 returns-clause-program c g tokens e = record {
   valid = (item_valid (place_item (lines tokens) 0 (tree_of g)) (fits (lines tokens) g), tt);

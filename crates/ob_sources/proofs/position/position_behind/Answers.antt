@@ -1,9 +1,9 @@
 use Rattle.std.proofs.Common.{take, arith, ap, ◌∙◌}
 use Rattle.std.proofs.lemmas.List.{length-take-le}
-use Rattle.ob_first.specs.declared.refusal.Position.{Position}
-use Rattle.ob_first.proofs.Positions.{behind_feed, behind_other, position_small}
-use Rattle.ob_first.proofs.front.position_behind.Goals as goal
-use Rattle.ob_first.proofs.front.position_behind.Goals.{then-byte-eq10, else-byte-eq10}
+use Rattle.ob_sources.specs.declared.position.Position.{Position}
+use Rattle.ob_sources.proofs.Positions.{behind_feed, behind_other, position_small}
+use Rattle.ob_sources.proofs.position.position_behind.Goals as goal
+use Rattle.ob_sources.proofs.position.position_behind.Goals.{then-byte-eq10, else-byte-eq10}
 
 pub overflow_add-position-else-byte-eq10 : goal.overflow_add-position-else-byte-eq10
 overflow_add-position-else-byte-eq10 c =

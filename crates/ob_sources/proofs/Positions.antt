@@ -7,8 +7,8 @@ use Rattle.ob_tree.specs.Bytes.{is_blank}
 use Rattle.ob_lexer.specs.declared.cursor.Cursor.{Cursor}
 use Rattle.ob_lexer.specs.Cursors.{place_of, advance}
 use Rattle.ob_lexer.proofs.CursorLemmas.{moved-place, place-small}
-use Rattle.ob_first.specs.Sources.{position_behind}
-use Rattle.ob_first.specs.declared.refusal.Position.{Position}
+use Rattle.ob_sources.specs.Positions.{position_behind}
+use Rattle.ob_sources.specs.declared.position.Position.{Position}
 
 abbrev position_at : Cursor → Position
 position_at p = record { line = p.line; column = p.column }

@@ -1,0 +1,3 @@
+mod OneSource
+mod SomeSource
+mod Faults
