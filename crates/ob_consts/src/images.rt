@@ -60,7 +60,7 @@ pub fn trimmed(bytes: Text) -> Text
 }
 
 /// What a static object of type `t` with this initialiser, whose items are judged to be constants, holds at the start: as
-/// [`static_image`], which judges them.
+/// [`static_image`], which judges them. `NoMemory` comes as it does there.
 pub fn initial_image(
     alloc: Global,
     s: &Structs,

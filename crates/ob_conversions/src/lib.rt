@@ -8,8 +8,9 @@
 //! displacements, `nodes` the other builders. Stands on `ob_base`, `ob_words`, `ob_tree`, `ob_typed`,
 //! `ob_layout` and `ob_consts`.
 //!
-//! To be believed are, of `ob_typed`, `TypeTests`, `Completeness`, `ConstantValues`, `Conversions`, `Places` and
-//! `TypedView`; and here `CheckedView`, which reads an operand as the definition's, and `Gives`, which says for the
+//! To be believed are, of `ob_typed`, `TypeTests`, `Completeness`, `ConstantValues`, `Conversions`, `Places`, `PostfixRules`
+//! (`number`), `UnaryRules` (`is_bare_null`) and `TypedView`; and here `CheckedView`, which reads an operand as the
+//! definition's and says what a pointer type points to (`target`), and `Gives`, which says for the
 //! crates above when an answer is that of a rule.
 #![tactic(auto)]
 

@@ -1,4 +1,4 @@
-//! Assignment and the comma operator (C99 6.5.16, 6.5.17), and what joins two operands.
+//! Assignment and the comma operator (C99 6.5.16, 6.5.17).
 ghost use Rattle.std.specs.Prelude.{◌≡◌, IfOk, false};
 ghost use Rattle.ob_tree.specs.Types.{PlainType};
 ghost use Rattle.ob_tree.specs.StructsView.{plain_structs};
