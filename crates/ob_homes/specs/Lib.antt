@@ -1,0 +1,2 @@
+pub mod HomesView
+pub mod Flags
