@@ -99,7 +99,7 @@ fn first_faults(rt: HostRuntime) -> Result<(), Fail> {
         (
             b"int main(void){return y;}\nint z = 1.5;",
             131,
-            "c.c:2:10: lex Stray\n",
+            "c.c:2:9: lex Stray\n",
         ),
         (
             b"int main(void){return y;}\nint z = ;",
