@@ -23,10 +23,10 @@ pub returns-clause-bad_only : goal.returns-clause-bad_only
 returns-clause-bad_only c = bad_only language c.law_status.ensures.own c.law_endings.ensures
 
 pub returns-clause-file_long_when : goal.returns-clause-file_long_when
-returns-clause-file_long_when c = file_long_when language c.law_one_job.ensures.one (exact c.law_one_outcome.ensures) (whole c.law_one_typed_tree.ensures.outcome c.law_one_typed_tree.ensures.memory)
+returns-clause-file_long_when c = file_long_when language c.law_one_job.ensures.one (exact c.law_one_outcome.ensures) (whole c.law_one_outcome-2.ensures.outcome c.law_one_outcome-2.ensures.memory)
 
 pub returns-clause-missing_when : goal.returns-clause-missing_when
-returns-clause-missing_when c = missing_when language c.law_one_job.ensures.one (exact c.law_one_outcome.ensures) (whole c.law_one_typed_tree.ensures.outcome c.law_one_typed_tree.ensures.memory)
+returns-clause-missing_when c = missing_when language c.law_one_job.ensures.one (exact c.law_one_outcome.ensures) (whole c.law_one_outcome-2.ensures.outcome c.law_one_outcome-2.ensures.memory)
 
 pub returns-clause-failed_when : goal.returns-clause-failed_when
 returns-clause-failed_when c = failed_when language
