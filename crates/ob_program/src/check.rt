@@ -1,8 +1,5 @@
-ghost use Rattle.std.specs.Prelude.{◌≡◌, ◌≤◌, ◌^◌, length, MatchResult};
+ghost use Rattle.std.specs.Prelude.{◌≡◌, ◌≤◌, ◌^◌, length};
 ghost use Rattle.ob_base.specs.Devices.{IsUnread, Reading};
-ghost use Rattle.ob_typed.specs.TypedTree.{TypedProgram};
-ghost use Rattle.ob_sources.specs.Stages.{MayStop};
-ghost use Rattle.ob_compile.specs.Accepted.{Accepted, ComesTo};
 ghost use Rattle.ob_settings.specs.declared.job.Job.{Job as JobValue};
 ghost use Rattle.ob_commands.specs.Check.{Check};
 ghost use Rattle.ob_commands.specs.Top.{IsIdle, OnSource};
@@ -10,26 +7,11 @@ ghost use Rattle.ob_commands.specs.Delivery.{CameFor};
 ghost use Rattle.ob_program.specs.Language.{whole_sources};
 
 use crate::run::{MOST_SOURCE_BYTES, faulty};
-use ob_base::{Folder, Sink, let_go};
+use ob_base::{Folder, Sink};
 use ob_commands::{Came, load, written};
-use ob_compile::accept;
+use ob_compile::examine;
 use ob_settings::Job;
-use ob_tree::SourceFault;
 use std::alloc::Global;
-
-/// Looks for the first fault of a source, whose typed tree isn't kept.
-fn accepted(alloc: Global, bytes: &[u8]) -> Result<(), SourceFault>
-    requires { length bytes.now ≤ 2 ^ 20 }
-    ensures { MatchResult result (λ _. (t : TypedProgram) × Accepted bytes.now t) (MayStop (ComesTo bytes.now)) }
-{
-    match accept(alloc, bytes) {
-        Ok(typed) => {
-            let_go(typed);
-            Ok(())
-        }
-        Err(fault) => Err(fault),
-    }
-}
 
 /// Writes `ok` where the source is accepted.
 fn check_source<K: Sink>(alloc: Global, bytes: &[u8], out: &mut K) -> Came
@@ -40,7 +22,7 @@ fn check_source<K: Sink>(alloc: Global, bytes: &[u8], out: &mut K) -> Came
         result
         (record { taken_before = K.taken out.old; taken_now = K.taken out.new; tally_before = K.tally out.old; tally_now = K.tally out.new; faults_before = K.faults out.old; faults_now = K.faults out.new }) }
 {
-    match accepted(alloc, bytes) {
+    match examine(alloc, bytes) {
         Ok(()) => written(b"ok\n", out),
         Err(fault) => faulty(fault),
     }
