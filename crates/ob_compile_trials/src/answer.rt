@@ -29,7 +29,7 @@ fn kind_name(kind: TypeKind) -> &'static str {
 fn token_at(tokens: &[Token], line: u32, column: u32) -> u32 {
     for (number, token) in tokens.iter().enumerate() {
         if token.span.line == line && token.span.column == column {
-            return number as u32;
+            return u32::try_from(number).unwrap_or(u32::MAX);
         }
     }
     u32::MAX

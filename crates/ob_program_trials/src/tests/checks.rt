@@ -11,147 +11,139 @@ fn check(alloc: Global, source: &[u8]) -> Result<Ran, NoMemory> {
     run(alloc, "check c.c", "c.c", source, &sound())
 }
 
+const ACCEPTED: [&str; 6] = [
+    "int main(void){return 0;}",
+    "int main(){return 1/0;}",
+    "#include <stdio.h>\nint main(void) { puts(\"Hi\"); return getchar(); }\n",
+    "struct S { char *p; int n; } s;\nint f(struct S *q) { return q->n; }\nint main(void) { return f(&s); }",
+    "int strlen(int n) { return n; }\nint main(void) { return strlen(3); }",
+    "static int a[4] = {1, 2}; static int *p = a + 4;\nint main(void) { for (int i = 0; i < 9; i++) p[i] = i; return *p; }",
+];
+
 #[test]
 fn accepted_sources(rt: HostRuntime) -> Result<(), Fail> {
-    let rows: [&[u8]; 6] = [
-        b"int main(void){return 0;}",
-        b"int main(){return 1/0;}",
-        b"#include <stdio.h>\nint main(void) { puts(\"Hi\"); return getchar(); }\n",
-        b"struct S { char *p; int n; } s;\nint f(struct S *q) { return q->n; }\nint main(void) { return f(&s); }",
-        b"int strlen(int n) { return n; }\nint main(void) { return strlen(3); }",
-        b"static int a[4] = {1, 2}; static int *p = a + 4;\nint main(void) { for (int i = 0; i < 9; i++) p[i] = i; return *p; }",
-    ];
-    for source in rows {
-        let ran = check(rt.alloc(), source)?;
+    for source in &ACCEPTED {
+        let ran = check(rt.alloc(), source.as_bytes())?;
+        assert_eq!(rt; (ran.status, ran.instructions), (0, 0), "{source}");
         assert_eq!(rt;
-            (ran.status, ran.out.as_str(), ran.err.as_str()),
-            (0, "ok\n", "")
+            (ran.out.as_str(), ran.err.as_str()),
+            ("ok\n", ""),
+            "{source}"
         );
-        assert_eq!(rt; ran.instructions, 0);
     }
     Ok(())
 }
 
 /// Of tokens, of syntax, and each kind of fault of types.
+const FAULTY: [(&str, u8, &str); 18] = [
+    ("int main(void){return 1.5;}", 131, "c.c:1:23: lex Stray\n"),
+    (
+        "int main(void){return 0;\n",
+        132,
+        "c.c:2:1: syntax NoTree\n",
+    ),
+    ("int main(void){return x;}", 133, "c.c:1:23: type Unknown\n"),
+    (
+        "int x;\nchar x;\nint main(void){return 0;}",
+        133,
+        "c.c:2:6: type Twice\n",
+    ),
+    (
+        "struct S s;\nint main(void){return 0;}",
+        133,
+        "c.c:1:10: type Incomplete\n",
+    ),
+    ("int main(void){1 = 2;}", 133, "c.c:1:18: type NotPlace\n"),
+    (
+        "int main(void){int *p; return p * 2;}",
+        133,
+        "c.c:1:33: type Operand\n",
+    ),
+    (
+        "int main(void){int *p; p = 3; return 0;}",
+        133,
+        "c.c:1:28: type Assign\n",
+    ),
+    (
+        "int f(int a){return a;}\nint main(void){return f();}",
+        133,
+        "c.c:2:23: type Count\n",
+    ),
+    (
+        "int x;\nint main(void){return x();}",
+        133,
+        "c.c:2:23: type NotFunction\n",
+    ),
+    (
+        "struct S {int a;} s;\nint main(void){return s.b;}",
+        133,
+        "c.c:2:25: type Member\n",
+    ),
+    (
+        "int a[0];\nint main(void){return 0;}",
+        133,
+        "c.c:1:7: type Constant\n",
+    ),
+    ("int main(void){break;}", 133, "c.c:1:16: type Jump\n"),
+    (
+        "int f(void);\nint main(void){return f();}",
+        133,
+        "c.c:2:23: type NoBody\n",
+    ),
+    ("int x;\n", 133, "c.c:2:1: type NoBody\n"),
+    ("int main(int n){return n;}", 133, "c.c:1:5: type NoBody\n"),
+    (
+        "int main(void){return y;}\nint z = 1.5;",
+        131,
+        "c.c:2:9: lex Stray\n",
+    ),
+    (
+        "int main(void){return y;}\nint z = ;",
+        132,
+        "c.c:2:9: syntax NoTree\n",
+    ),
+];
+
 #[test]
 fn first_faults(rt: HostRuntime) -> Result<(), Fail> {
-    let rows: [(&[u8], u8, &str); 18] = [
-        (b"int main(void){return 1.5;}", 131, "c.c:1:23: lex Stray\n"),
-        (
-            b"int main(void){return 0;\n",
-            132,
-            "c.c:2:1: syntax NoTree\n",
-        ),
-        (
-            b"int main(void){return x;}",
-            133,
-            "c.c:1:23: type Unknown\n",
-        ),
-        (
-            b"int x;\nchar x;\nint main(void){return 0;}",
-            133,
-            "c.c:2:6: type Twice\n",
-        ),
-        (
-            b"struct S s;\nint main(void){return 0;}",
-            133,
-            "c.c:1:10: type Incomplete\n",
-        ),
-        (b"int main(void){1 = 2;}", 133, "c.c:1:18: type NotPlace\n"),
-        (
-            b"int main(void){int *p; return p * 2;}",
-            133,
-            "c.c:1:33: type Operand\n",
-        ),
-        (
-            b"int main(void){int *p; p = 3; return 0;}",
-            133,
-            "c.c:1:28: type Assign\n",
-        ),
-        (
-            b"int f(int a){return a;}\nint main(void){return f();}",
-            133,
-            "c.c:2:23: type Count\n",
-        ),
-        (
-            b"int x;\nint main(void){return x();}",
-            133,
-            "c.c:2:23: type NotFunction\n",
-        ),
-        (
-            b"struct S {int a;} s;\nint main(void){return s.b;}",
-            133,
-            "c.c:2:25: type Member\n",
-        ),
-        (
-            b"int a[0];\nint main(void){return 0;}",
-            133,
-            "c.c:1:7: type Constant\n",
-        ),
-        (b"int main(void){break;}", 133, "c.c:1:16: type Jump\n"),
-        (
-            b"int f(void);\nint main(void){return f();}",
-            133,
-            "c.c:2:23: type NoBody\n",
-        ),
-        (b"int x;\n", 133, "c.c:2:1: type NoBody\n"),
-        (b"int main(int n){return n;}", 133, "c.c:1:5: type NoBody\n"),
-        (
-            b"int main(void){return y;}\nint z = 1.5;",
-            131,
-            "c.c:2:9: lex Stray\n",
-        ),
-        (
-            b"int main(void){return y;}\nint z = ;",
-            132,
-            "c.c:2:9: syntax NoTree\n",
-        ),
-    ];
-    for (source, status, err) in rows {
-        let ran = check(rt.alloc(), source)?;
-        assert_eq!(rt; ran.err.as_str(), err);
-        assert_eq!(rt; (ran.status, ran.out.as_str()), (status, ""));
-        assert_eq!(rt; ran.instructions, 0);
+    for (source, status, err) in &FAULTY {
+        let ran = check(rt.alloc(), source.as_bytes())?;
+        assert_eq!(rt; ran.err.as_str(), *err, "{source}");
+        assert_eq!(rt; (ran.status, ran.out.as_str()), (*status, ""), "{source}");
     }
     Ok(())
 }
 
 /// The blocks of the static objects may have 4,194,304 bytes together: a block is the next multiple of 16 bytes that is greater
 /// than the object.
+const STATICS: [(&str, u8, &str, &str); 4] = [
+    ("char a[4194303];\nint main(void){return 0;}", 0, "ok\n", ""),
+    (
+        "char a[4194304];\nint main(void){return 0;}",
+        134,
+        "",
+        "c.c: limit Statics\n",
+    ),
+    (
+        "char a[4194287];\nchar b;\nint main(void){return 0;}",
+        0,
+        "ok\n",
+        "",
+    ),
+    (
+        "char a[4194288];\nchar b;\nint main(void){return 0;}",
+        134,
+        "",
+        "c.c: limit Statics\n",
+    ),
+];
+
 #[test]
 fn limit_of_static_objects(rt: HostRuntime) -> Result<(), Fail> {
-    let rows: [(&[u8], u8, &str, &str); 4] = [
-        (
-            b"char a[4194303];\nint main(void){return 0;}",
-            0,
-            "ok\n",
-            "",
-        ),
-        (
-            b"char a[4194304];\nint main(void){return 0;}",
-            134,
-            "",
-            "c.c: limit Statics\n",
-        ),
-        (
-            b"char a[4194287];\nchar b;\nint main(void){return 0;}",
-            0,
-            "ok\n",
-            "",
-        ),
-        (
-            b"char a[4194288];\nchar b;\nint main(void){return 0;}",
-            134,
-            "",
-            "c.c: limit Statics\n",
-        ),
-    ];
-    for (source, status, out, err) in rows {
-        let ran = check(rt.alloc(), source)?;
-        assert_eq!(rt;
-            (ran.status, ran.out.as_str(), ran.err.as_str()),
-            (status, out, err)
-        );
+    for (source, status, out, err) in &STATICS {
+        let ran = check(rt.alloc(), source.as_bytes())?;
+        assert_eq!(rt; (ran.status, ran.out.as_str()), (*status, *out), "{source}");
+        assert_eq!(rt; ran.err.as_str(), *err, "{source}");
     }
     Ok(())
 }
