@@ -10,7 +10,7 @@ use Rattle.ob_commands.specs.Answers.{Outcome}
 use Rattle.ob_commands.specs.Parts as parts
 use Rattle.ob_commands.specs.Parts.{Asked, Language, asked, OfFile, unavailable, long, OfSource, faulty, later, accepted, OfImage, bad, verified, IsLoaded}
 use Rattle.ob_commands.specs.Top.{Devices, ComesOf}
-use Rattle.ob_commands.specs.Causes.{Cause, NoJobCause, Loads, HasSource, HasBytes}
+use Rattle.ob_commands.specs.Causes.{Cause, CannotYet, NoJobCause, Loads, HasLater, HasSource, HasBytes, sources_of}
 use Rattle.ob_commands.specs.Laws.{AnswersHaveCauses}
 
 module _ (lang : Language) where
@@ -24,11 +24,12 @@ module _ (lang : Language) where
   of_file v a most d o Then loads (long cause not_read is) next = by_equal v a d o _ is (most, loads, cause)
   of_file v a most d o Then loads (parts.loaded bytes from goes_on) next = next bytes from goes_on
 
-  of_source : (a : Asked) (d : Devices) (o : Outcome) (source : List ℕ) (Then : lang.Program → Type 0) → HasSource verb.Run a d.folder source → OfSource lang a.job.argument source d.input o Then →
-      ((program : lang.Program) → lang.IsAccepted source program → Then program → Cause lang o.answer verb.Run a d) → Cause lang o.answer verb.Run a d
-  of_source a d o source Then has (faulty fault cause not_read is) next = by_equal verb.Run a d o _ is (record { source = source; has = has; is_fault = cause })
-  of_source a d o source Then has (later cause not_read is) next = by_equal verb.Run a d o _ is (record { source = source; has = has; is_later = cause })
-  of_source a d o source Then has (accepted program typed goes_on) next = next program typed goes_on
+  of_source : (v : Verb) (a : Asked) (d : Devices) (o : Outcome) (source : List ℕ) (Then : (sources_of lang v).Program → Type 0) → HasSource v a d.folder source →
+      (HasLater lang v a d.folder → CannotYet lang v a d.folder) → OfSource (sources_of lang v) a.job.argument source d.input o Then →
+      ((program : (sources_of lang v).Program) → (sources_of lang v).IsAccepted source program → Then program → Cause lang o.answer v a d) → Cause lang o.answer v a d
+  of_source v a d o source Then has cannot (faulty fault cause not_read is) next = by_equal v a d o _ is (record { source = source; has = has; is_fault = cause })
+  of_source v a d o source Then has cannot (later cause not_read is) next = by_equal v a d o _ is (cannot (record { source = source; has = has; is_later = cause }))
+  of_source v a d o source Then has cannot (accepted program typed goes_on) next = next program typed goes_on
 
   of_image : (v : Verb) (a : Asked) (d : Devices) (o : Outcome) (bytes : List ℕ) (Then : Image → Type 0) → HasBytes v a d.folder bytes → OfImage a.job.argument bytes d.input o Then →
       ((image : Image) → Spells bytes image → IsVerified image → Then image → Cause lang o.answer v a d) → Cause lang o.answer v a d
@@ -37,8 +38,11 @@ module _ (lang : Language) where
 
   comes_of : (v : Verb) (a : Asked) (d : Devices) (o : Outcome) → ComesOf lang v a d.folder d.input o → Cause lang o.answer v a d
   comes_of verb.Run a d o c =
-      of_file verb.Run a _ d o _ refl c (λ source from goes_on. of_source a d o source _ from goes_on (λ program typed then.
+      of_file verb.Run a _ d o _ refl c (λ source from goes_on. of_source verb.Run a d o source _ from (λ it. it) goes_on (λ program typed then.
       by_equal verb.Run a d o _ then.1 (program, record { source = source; has = from; typed = typed }, refl)))
+  comes_of verb.Check a d o c =
+      of_file verb.Check a _ d o _ refl c (λ source from goes_on. of_source verb.Check a d o source _ from (λ it. it) goes_on (λ program typed then.
+      by_equal verb.Check a d o _ then.1 (program, record { source = source; has = from; typed = typed })))
   comes_of verb.Exec a d o c =
       of_file verb.Exec a _ d o _ refl c (λ bytes from goes_on. of_image verb.Exec a d o bytes _ from goes_on (λ image spelled sound then.
       by_equal verb.Exec a d o _ then.is
@@ -47,7 +51,6 @@ module _ (lang : Language) where
       of_file verb.Migrate a _ d o _ refl c (λ bytes from goes_on. of_image verb.Migrate a d o bytes _ from goes_on (λ image spelled sound then.
       by_equal verb.Migrate a d o _ then.is (image, record { bytes = bytes; has = from; spelled = spelled; sound = sound })))
   comes_of verb.Compile a d o c = by_equal verb.Compile a d o _ c.is tt
-  comes_of verb.Check a d o c = by_equal verb.Check a d o _ c.is tt
   comes_of verb.Audit a d o c = by_equal verb.Audit a d o _ c.is tt
   comes_of verb.Sample a d o c = by_equal verb.Sample a d o _ c.is tt
 

@@ -119,19 +119,23 @@ of_image a seen bytes r Then image c w spelled sound it = came_as a seen _ _ (Is
 
 -- ---- output
 
+-- bytes that are an outcome's
+pub put_came : (a : Asked) (seen : List Watch) (P : Outcome → Type 0) (I : Type 0) (bytes : List ℕ) (c : Came) (w : Writing) → P (wrote bytes) → IsPut bytes c w → CameTo a seen P I c w
+put_came a seen P I bytes (Due Done n) w comes it = record { outcome = wrote bytes; comes = comes; answer_is = refl; err_is = refl; count = it.1; all_out = it.0 }
+put_came a seen P I bytes (Due Usage n) w comes it = absurd it
+put_came a seen P I bytes (Due FileFault n) w comes it = absurd it
+put_came a seen P I bytes (Due FileLong n) w comes it = absurd it
+put_came a seen P I bytes (Due (Refused fault) n) w comes it = absurd it
+put_came a seen P I bytes (Due (Bad fault) n) w comes it = absurd it
+put_came a seen P I bytes (Due (Ran e) n) w comes it = absurd it
+put_came a seen P I bytes (Due NotYet n) w comes it = absurd it
+put_came a seen P I bytes (Cut n) w comes it = record { outcome = wrote bytes; comes = comes; cut = it.0; count = omega (arith, it.1) }
+put_came a seen P I bytes (Lost n) w comes it = absurd it
+put_came a seen P I bytes Starved w comes it = absurd it
+
 pub of_put : (a : Asked) (seen : List Watch) (image : Image) (bytes : List ℕ) (r : Reading) (c : Came) (w : Writing) → IsUnread r → SpellsIn Two bytes image → IsPut bytes c w → CameTo a seen (λ o. IsRewritten image r o) (IsUnread r) c w
-of_put a seen image bytes r (Due Done n) w quiet spelled it =
-    record { outcome = wrote bytes; comes = record { unread = quiet; bytes = bytes; spelled = spelled; is = refl }; answer_is = refl; err_is = refl; count = it.1; all_out = it.0 }
-of_put a seen image bytes r (Due Usage n) w quiet spelled it = absurd it
-of_put a seen image bytes r (Due FileFault n) w quiet spelled it = absurd it
-of_put a seen image bytes r (Due FileLong n) w quiet spelled it = absurd it
-of_put a seen image bytes r (Due (Refused fault) n) w quiet spelled it = absurd it
-of_put a seen image bytes r (Due (Bad fault) n) w quiet spelled it = absurd it
-of_put a seen image bytes r (Due (Ran e) n) w quiet spelled it = absurd it
-of_put a seen image bytes r (Due NotYet n) w quiet spelled it = absurd it
-of_put a seen image bytes r (Cut n) w quiet spelled it = record { outcome = wrote bytes; comes = record { unread = quiet; bytes = bytes; spelled = spelled; is = refl }; cut = it.0; count = omega (arith, it.1) }
-of_put a seen image bytes r (Lost n) w quiet spelled it = absurd it
-of_put a seen image bytes r Starved w quiet spelled it = absurd it
+of_put a seen image bytes r c w quiet spelled it =
+    put_came a seen (λ o. IsRewritten image r o) (IsUnread r) bytes c w (record { unread = quiet; bytes = bytes; spelled = spelled; is = refl }) it
 
 -- ---- runs
 

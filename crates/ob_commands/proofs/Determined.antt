@@ -5,7 +5,6 @@ use Rattle.std.specs.FinMap.{get}
 use Rattle.ob_base.specs.Folder.{Files, IsMissing}
 use Rattle.ob_base.specs.Devices.{Loading, Reading, IsSound, IsUnavailable, IsToldAs, IsToldLong}
 use Rattle.ob_tree.specs.declared.faults.SourceFault.{SourceFault}
-use Rattle.ob_model.specs.Endings.{closed}
 use Rattle.ob_settings.specs.declared.job.Job.{Job}
 use Rattle.ob_settings.specs.declared.verb.Verb.{Verb}
 use Rattle.ob_settings.specs.declared.verb.Verb.TheVariants as verb
@@ -13,11 +12,12 @@ use Rattle.ob_settings.specs.Jobs.{OneJob}
 use Rattle.ob_commands.specs.declared.answer.Answer.TheVariants.{FileFault, FileLong, Refused, NotYet}
 use Rattle.ob_commands.specs.Answers.{Outcome, told_why}
 use Rattle.ob_commands.specs.Parts as parts
-use Rattle.ob_commands.specs.Parts.{Asked, Language, asked, final_of, most_source_bytes, run_outcome, OfFile, unavailable, long, faulty, later, accepted}
+use Rattle.ob_commands.specs.Parts.{Asked, Language, Sources, asked, most_source_bytes, OfFile, unavailable, long, OfSource, faulty, later, accepted}
 use Rattle.ob_commands.specs.Run.{Run}
+use Rattle.ob_commands.specs.Check.{Check}
 use Rattle.ob_commands.specs.Top.{Ask, Comes, ComesOf, Devices, Handed, does, helpless}
-use Rattle.ob_commands.specs.Causes.{Loads}
-use Rattle.ob_commands.specs.Laws.{AsksFor, FailedTold, FailedWhen, FaultWhen, FileLongWhen, HasFile, HasText, IsExact, LaterWhen, MissingWhen, RunWhen}
+use Rattle.ob_commands.specs.Causes.{Loads, sources_of}
+use Rattle.ob_commands.specs.Laws.{AsksFor, CheckWhen, FailedTold, FailedWhen, FaultWhen, FileLongWhen, HasFile, HasText, IsExact, LaterWhen, MissingWhen, RunWhen, TakesSource}
 use Rattle.ob_commands.proofs.Rows.{delivered, nothing_came}
 
 -- ---- what the folder tells
@@ -76,7 +76,7 @@ job_long lang verb.Run a l r o bytes most loads has above comes = is_long a _ l 
 job_long lang verb.Exec a l r o bytes most loads has above comes = is_long a _ l r o _ bytes has (subst (λ m. m < length bytes) loads above) comes
 job_long lang verb.Migrate a l r o bytes most loads has above comes = is_long a _ l r o _ bytes has (subst (λ m. m < length bytes) loads above) comes
 job_long lang verb.Compile a l r o bytes most loads has above comes = absurd loads
-job_long lang verb.Check a l r o bytes most loads has above comes = absurd loads
+job_long lang verb.Check a l r o bytes most loads has above comes = is_long a _ l r o _ bytes has (subst (λ m. m < length bytes) loads above) comes
 job_long lang verb.Audit a l r o bytes most loads has above comes = absurd loads
 job_long lang verb.Sample a l r o bytes most loads has above comes = absurd loads
 
@@ -91,7 +91,7 @@ job_missing lang verb.Run a l r o most loads none comes = is_missing a _ l r o _
 job_missing lang verb.Exec a l r o most loads none comes = is_missing a _ l r o _ none comes
 job_missing lang verb.Migrate a l r o most loads none comes = is_missing a _ l r o _ none comes
 job_missing lang verb.Compile a l r o most loads none comes = absurd loads
-job_missing lang verb.Check a l r o most loads none comes = absurd loads
+job_missing lang verb.Check a l r o most loads none comes = is_missing a _ l r o _ none comes
 job_missing lang verb.Audit a l r o most loads none comes = absurd loads
 job_missing lang verb.Sample a l r o most loads none comes = absurd loads
 
@@ -106,7 +106,7 @@ job_failed lang verb.Run a l r o failed comes = file_failed a _ l r o _ failed c
 job_failed lang verb.Exec a l r o failed comes = file_failed a _ l r o _ failed comes
 job_failed lang verb.Migrate a l r o failed comes = file_failed a _ l r o _ failed comes
 job_failed lang verb.Compile a l r o failed comes = absurd (failed comes.idle.sound)
-job_failed lang verb.Check a l r o failed comes = absurd (failed comes.idle.sound)
+job_failed lang verb.Check a l r o failed comes = file_failed a _ l r o _ failed comes
 job_failed lang verb.Audit a l r o failed comes = absurd (failed comes.idle.sound)
 job_failed lang verb.Sample a l r o failed comes = absurd (failed comes.idle.sound)
 
@@ -119,32 +119,61 @@ failed_when lang h d s n (does it) failed = by it.job it.asks it.comes
     by (Some job) asks comes =
         record { job = job; asks = asks; told = delivered d _ it.outcome _ s n (job_failed lang job.verb (asked job h.makers h.watchers) d.folder d.input it.outcome failed comes) it.delivers }
 
-module _ (lang : Language) (one : OneJob) (exact : IsExact lang) where
+-- ---- what is known of a source
+
+module _ (s : Sources) (exact : IsExact s) (name text : List ℕ) (r : Reading) (o : Outcome) (Then : s.Program → Type 0) where
+  of_fault : (fault : SourceFault) → s.IsFaultOf text fault → OfSource s name text r o Then → o ≡ told_why name (Refused fault)
+  of_fault fault is_fault (faulty other cause unread is) = is ∙ ap (λ f. told_why name (Refused f)) (exact.one_fault text other fault cause is_fault)
+  of_fault fault is_fault (later cause unread is) = absurd (exact.fault_or_later text fault is_fault cause)
+  of_fault fault is_fault (accepted program typed goes_on) = absurd (exact.fault_or_program text fault program is_fault typed)
+
+  of_later : s.IsLater text → OfSource s name text r o Then → o ≡ told_why name NotYet
+  of_later is_later (faulty fault cause unread is) = absurd (exact.fault_or_later text fault cause is_later)
+  of_later is_later (later cause unread is) = is
+  of_later is_later (accepted program typed goes_on) = absurd (exact.later_or_program text program is_later typed)
+
+  of_program : (program : s.Program) → s.IsAccepted text program → OfSource s name text r o Then → Then program
+  of_program program typed (faulty fault cause unread is) = absurd (exact.fault_or_program text fault program cause typed)
+  of_program program typed (later cause unread is) = absurd (exact.later_or_program text program cause typed)
+  of_program program typed (accepted other also goes_on) = subst Then (exact.one_program text other program also typed) goes_on
+
+module _ (lang : Language) (one : OneJob) (compiled : IsExact lang.compiled) (checked : IsExact lang.checked) where
   -- the words ask for one job
-  same_job : (h : Handed) (d : Devices) (o : Outcome) (found : Option Job) (job : Job) → Ask h.words (length h.makers) found → AsksFor h job → Comes lang found h d o → ComesOf lang job.verb (asked job h.makers h.watchers) d.folder d.input o
+  pub same_job : (h : Handed) (d : Devices) (o : Outcome) (found : Option Job) (job : Job) → Ask h.words (length h.makers) found → AsksFor h job → Comes lang found h d o → ComesOf lang job.verb (asked job h.makers h.watchers) d.folder d.input o
   same_job h d o None job asks also comes = absurd (asks job also)
   same_job h d o (Some other) job asks also comes = subst (λ j. ComesOf lang j.verb (asked j h.makers h.watchers) d.folder d.input o) (one h.words other job asks.asked also.asked) comes
 
-  of_run : (h : Handed) (d : Devices) (o : Outcome) (job : Job) (text : List ℕ) → HasText h d job text → ComesOf lang job.verb (asked job h.makers h.watchers) d.folder d.input o → Run lang (asked job h.makers h.watchers) text d.input o
+  pub with_verb : (v w : Verb) (a : Asked) (l : Loading) (r : Reading) (o : Outcome) → w ≡ v → ComesOf lang w a l r o → ComesOf lang v a l r o
+  with_verb v w a l r o is comes = subst (λ x. ComesOf lang x a l r o) is comes
+
+  -- the text of a job goes on as its command says
+  of_run : (h : Handed) (d : Devices) (o : Outcome) (job : Job) (text : List ℕ) → HasText h d verb.Run job text → ComesOf lang job.verb (asked job h.makers h.watchers) d.folder d.input o → Run lang (asked job h.makers h.watchers) text d.input o
   of_run h d o job text has comes =
-      let run : ComesOf lang verb.Run (asked job h.makers h.watchers) d.folder d.input o = subst (λ v. ComesOf lang v (asked job h.makers h.watchers) d.folder d.input o) has.is_run comes in
-      is_loaded (asked job h.makers h.watchers) most_source_bytes d.folder d.input o _ text has.file has.short run
+      is_loaded (asked job h.makers h.watchers) most_source_bytes d.folder d.input o _ text has.file has.short (with_verb verb.Run job.verb (asked job h.makers h.watchers) d.folder d.input o has.verb_is comes)
 
-  of_fault : (a : Asked) (text : List ℕ) (r : Reading) (o : Outcome) (fault : SourceFault) → lang.IsFaultOf text fault → Run lang a text r o → o ≡ told_why a.job.argument (Refused fault)
-  of_fault a text r o fault is_fault (faulty other cause unread is) = is ∙ ap (λ f. told_why a.job.argument (Refused f)) (exact.one_fault text other fault cause is_fault)
-  of_fault a text r o fault is_fault (later cause unread is) = absurd (exact.fault_or_later text fault is_fault cause)
-  of_fault a text r o fault is_fault (accepted program typed goes_on) = absurd (exact.fault_or_program text fault program is_fault typed)
+  of_check : (h : Handed) (d : Devices) (o : Outcome) (job : Job) (text : List ℕ) → HasText h d verb.Check job text → ComesOf lang job.verb (asked job h.makers h.watchers) d.folder d.input o → Check lang.checked (asked job h.makers h.watchers) text d.input o
+  of_check h d o job text has comes =
+      is_loaded (asked job h.makers h.watchers) most_source_bytes d.folder d.input o _ text has.file has.short (with_verb verb.Check job.verb (asked job h.makers h.watchers) d.folder d.input o has.verb_is comes)
 
-  of_later : (a : Asked) (text : List ℕ) (r : Reading) (o : Outcome) → lang.IsLater text → Run lang a text r o → o ≡ told_why a.job.argument NotYet
-  of_later a text r o is_later (faulty fault cause unread is) = absurd (exact.fault_or_later text fault cause is_later)
-  of_later a text r o is_later (later cause unread is) = is
-  of_later a text r o is_later (accepted program typed goes_on) = absurd (exact.later_or_program text program is_later typed)
+  is_fault_of : (v : Verb) (h : Handed) (d : Devices) (o : Outcome) (job : Job) (text : List ℕ) (fault : SourceFault) → TakesSource v → HasText h d v job text → (sources_of lang v).IsFaultOf text fault →
+      ComesOf lang job.verb (asked job h.makers h.watchers) d.folder d.input o → o ≡ told_why job.argument (Refused fault)
+  is_fault_of verb.Run h d o job text fault takes has is_fault comes = of_fault lang.compiled compiled job.argument text d.input o _ fault is_fault (of_run h d o job text has comes)
+  is_fault_of verb.Check h d o job text fault takes has is_fault comes = of_fault lang.checked checked job.argument text d.input o _ fault is_fault (of_check h d o job text has comes)
+  is_fault_of verb.Exec h d o job text fault takes has is_fault comes = absurd takes
+  is_fault_of verb.Migrate h d o job text fault takes has is_fault comes = absurd takes
+  is_fault_of verb.Compile h d o job text fault takes has is_fault comes = absurd takes
+  is_fault_of verb.Audit h d o job text fault takes has is_fault comes = absurd takes
+  is_fault_of verb.Sample h d o job text fault takes has is_fault comes = absurd takes
 
-  of_program : (a : Asked) (text : List ℕ) (r : Reading) (o : Outcome) (program : lang.Program) → lang.IsAccepted text program → Run lang a text r o → o ≡ run_outcome a (final_of a (lang.code_of program) [] closed)
-  of_program a text r o program typed (faulty fault cause unread is) = absurd (exact.fault_or_program text fault program cause typed)
-  of_program a text r o program typed (later cause unread is) = absurd (exact.later_or_program text program cause typed)
-  of_program a text r o program typed (accepted other also goes_on) =
-      goes_on.1 ∙ ap (λ p. run_outcome a (final_of a (lang.code_of p) [] closed)) (exact.one_program text other program also typed)
+  is_later_of : (v : Verb) (h : Handed) (d : Devices) (o : Outcome) (job : Job) (text : List ℕ) → TakesSource v → HasText h d v job text → (sources_of lang v).IsLater text →
+      ComesOf lang job.verb (asked job h.makers h.watchers) d.folder d.input o → o ≡ told_why job.argument NotYet
+  is_later_of verb.Run h d o job text takes has is_later comes = of_later lang.compiled compiled job.argument text d.input o _ is_later (of_run h d o job text has comes)
+  is_later_of verb.Check h d o job text takes has is_later comes = of_later lang.checked checked job.argument text d.input o _ is_later (of_check h d o job text has comes)
+  is_later_of verb.Exec h d o job text takes has is_later comes = absurd takes
+  is_later_of verb.Migrate h d o job text takes has is_later comes = absurd takes
+  is_later_of verb.Compile h d o job text takes has is_later comes = absurd takes
+  is_later_of verb.Audit h d o job text takes has is_later comes = absurd takes
+  is_later_of verb.Sample h d o job text takes has is_later comes = absurd takes
 
   pub file_long_when : FileLongWhen lang
   file_long_when h d s n job bytes most (helpless it) asks loads has above = nothing_came d _ s it.status_is it.out it.err
@@ -159,19 +188,25 @@ module _ (lang : Language) (one : OneJob) (exact : IsExact lang) where
       delivered d _ it.outcome _ s n (job_missing lang job.verb (asked job h.makers h.watchers) d.folder d.input it.outcome most loads none comes) it.delivers
 
   pub fault_when : FaultWhen lang
-  fault_when h d s n job text fault (helpless it) has is_fault = nothing_came d _ s it.status_is it.out it.err
-  fault_when h d s n job text fault (does it) has is_fault =
-      let comes = of_run h d it.outcome job text has (same_job h d it.outcome it.job job it.asks has.asks it.comes) in
-      delivered d _ it.outcome _ s n (of_fault (asked job h.makers h.watchers) text d.input it.outcome fault is_fault comes) it.delivers
+  fault_when h d s n v job text fault (helpless it) takes has is_fault = nothing_came d _ s it.status_is it.out it.err
+  fault_when h d s n v job text fault (does it) takes has is_fault =
+      delivered d _ it.outcome _ s n (is_fault_of v h d it.outcome job text fault takes has is_fault (same_job h d it.outcome it.job job it.asks has.asks it.comes)) it.delivers
 
   pub later_when : LaterWhen lang
-  later_when h d s n job text (helpless it) has is_later = nothing_came d _ s it.status_is it.out it.err
-  later_when h d s n job text (does it) has is_later =
-      let comes = of_run h d it.outcome job text has (same_job h d it.outcome it.job job it.asks has.asks it.comes) in
-      delivered d _ it.outcome _ s n (of_later (asked job h.makers h.watchers) text d.input it.outcome is_later comes) it.delivers
+  later_when h d s n v job text (helpless it) takes has is_later = nothing_came d _ s it.status_is it.out it.err
+  later_when h d s n v job text (does it) takes has is_later =
+      delivered d _ it.outcome _ s n (is_later_of v h d it.outcome job text takes has is_later (same_job h d it.outcome it.job job it.asks has.asks it.comes)) it.delivers
 
   pub run_when : RunWhen lang
   run_when h d s n job text program (helpless it) has typed = nothing_came d _ s it.status_is it.out it.err
   run_when h d s n job text program (does it) has typed =
-      let comes = of_run h d it.outcome job text has (same_job h d it.outcome it.job job it.asks has.asks it.comes) in
-      delivered d _ it.outcome _ s n (of_program (asked job h.makers h.watchers) text d.input it.outcome program typed comes) it.delivers
+      let run = of_run h d it.outcome job text has (same_job h d it.outcome it.job job it.asks has.asks it.comes) in
+      let goes_on = of_program lang.compiled compiled job.argument text d.input it.outcome _ program typed run in
+      delivered d _ it.outcome _ s n goes_on.1 it.delivers
+
+  pub check_when : CheckWhen lang
+  check_when h d s n job text program (helpless it) has typed = nothing_came d _ s it.status_is it.out it.err
+  check_when h d s n job text program (does it) has typed =
+      let check = of_check h d it.outcome job text has (same_job h d it.outcome it.job job it.asks has.asks it.comes) in
+      let goes_on = of_program lang.checked checked job.argument text d.input it.outcome _ program typed check in
+      delivered d _ it.outcome _ s n goes_on.1 it.delivers

@@ -5,5 +5,6 @@ pub mod Caused
 mod Numbers
 pub mod Rows
 pub mod Determined
+pub mod Checked
 pub mod Makers
 mod Texts

@@ -23,7 +23,7 @@ use Rattle.ob_commands.specs.declared.answer.Answer.{Answer}
 use Rattle.ob_commands.specs.declared.answer.Answer.TheVariants.{Usage, FileFault, FileLong, Refused, Bad, Ran, NotYet}
 use Rattle.ob_commands.specs.Answers.{Outcome, TakesMemory, status_of, told_why}
 use Rattle.ob_commands.specs.Parts as parts
-use Rattle.ob_commands.specs.Parts.{Asked, Language, asked, final_of, settings_for, OfFile, unavailable, long, OfSource, faulty, later, accepted, OfImage, bad, verified}
+use Rattle.ob_commands.specs.Parts.{Asked, Language, Sources, asked, final_of, settings_for, OfFile, unavailable, long, OfSource, faulty, later, accepted, OfImage, bad, verified}
 use Rattle.ob_commands.specs.Top.{Answers, Ask, Comes, ComesOf, Delivers, Devices, Does, Handed, does, helpless, wants_report, whole, out_failed, err_failed, lost, starved}
 use Rattle.ob_commands.specs.Causes.{CauseOf, HasEnding}
 use Rattle.ob_commands.specs.Laws.{AllIsTold, CannotLoad, ComesTo, IsRefusal, LaterTold, NoOther, NotYetOnly, OwnOnly, RefusalsAreTold, FaultOnly, FaultTold, FaultsAreTold, FileFaultOnly, FileLongOnly, GivesWay, HasLongFile, InputIsLeft, IsTold, BadOnly, BadTold, EndingOnly, RanTo, ReadFaultOnly, SinksTakePrefixes, Takes, UsageOnly, UsageTakesNoMemory, UsageWhen, WriteFaultOnly}
@@ -76,10 +76,10 @@ file_alone a most l r o Then (unavailable cause unread is) f = told_alone _ File
 file_alone a most l r o Then (long cause unread is) f = told_alone _ FileLong o is
 file_alone a most l r o Then (parts.loaded bytes from goes_on) f = f bytes goes_on
 
-source_alone : (lang : Language) (name text : List ℕ) (r : Reading) (o : Outcome) (Then : lang.Program → Type 0) → OfSource lang name text r o Then → ((p : lang.Program) → Then p → o ≡ told_why name o.answer) → o ≡ told_why name o.answer
-source_alone lang name text r o Then (faulty fault cause unread is) f = told_alone name (Refused fault) o is
-source_alone lang name text r o Then (later cause unread is) f = told_alone name NotYet o is
-source_alone lang name text r o Then (accepted program typed goes_on) f = f program goes_on
+source_alone : (s : Sources) (name text : List ℕ) (r : Reading) (o : Outcome) (Then : s.Program → Type 0) → OfSource s name text r o Then → ((p : s.Program) → Then p → o ≡ told_why name o.answer) → o ≡ told_why name o.answer
+source_alone s name text r o Then (faulty fault cause unread is) f = told_alone name (Refused fault) o is
+source_alone s name text r o Then (later cause unread is) f = told_alone name NotYet o is
+source_alone s name text r o Then (accepted program typed goes_on) f = f program goes_on
 
 image_alone : (name bytes : List ℕ) (r : Reading) (o : Outcome) (Then : Image → Type 0) → OfImage name bytes r o Then → ((i : Image) → Then i → o ≡ told_why name o.answer) → o ≡ told_why name o.answer
 image_alone name bytes r o Then (bad fault cause unread is) f = told_alone name (Bad fault) o is
@@ -87,13 +87,14 @@ image_alone name bytes r o Then (verified image spelled sound goes_on) f = f ima
 
 job_alone : (lang : Language) (v : Verb) (a : Asked) (l : Loading) (r : Reading) (o : Outcome) → ComesOf lang v a l r o → IsRefusal o.answer → o ≡ told_why a.job.argument o.answer
 job_alone lang verb.Run a l r o comes refused =
-    file_alone a _ l r o _ comes (λ text then. source_alone lang _ text r o _ then (λ program it. absurd (no_run o _ it.1 (λ x. x) refused)))
+    file_alone a _ l r o _ comes (λ text then. source_alone lang.compiled _ text r o _ then (λ program it. absurd (no_run o _ it.1 (λ x. x) refused)))
 job_alone lang verb.Exec a l r o comes refused =
     file_alone a _ l r o _ comes (λ bytes then. image_alone _ bytes r o _ then (λ image it. absurd (no_run o _ it.is (λ x. x) refused)))
 job_alone lang verb.Migrate a l r o comes refused =
     file_alone a _ l r o _ comes (λ bytes then. image_alone _ bytes r o _ then (λ image it. absurd (no_run o _ it.is (λ x. x) refused)))
 job_alone lang verb.Compile a l r o comes refused = told_alone _ NotYet o comes.is
-job_alone lang verb.Check a l r o comes refused = told_alone _ NotYet o comes.is
+job_alone lang verb.Check a l r o comes refused =
+    file_alone a _ l r o _ comes (λ text then. source_alone lang.checked _ text r o _ then (λ program it. absurd (no_run o _ it.1 (λ x. x) refused)))
 job_alone lang verb.Audit a l r o comes refused = told_alone _ NotYet o comes.is
 job_alone lang verb.Sample a l r o comes refused = told_alone _ NotYet o comes.is
 
@@ -131,7 +132,7 @@ job_sound lang verb.Run a l r o comes = file_sound a _ l r o _ comes
 job_sound lang verb.Exec a l r o comes = file_sound a _ l r o _ comes
 job_sound lang verb.Migrate a l r o comes = file_sound a _ l r o _ comes
 job_sound lang verb.Compile a l r o comes = inr comes.idle.sound
-job_sound lang verb.Check a l r o comes = inr comes.idle.sound
+job_sound lang verb.Check a l r o comes = file_sound a _ l r o _ comes
 job_sound lang verb.Audit a l r o comes = inr comes.idle.sound
 job_sound lang verb.Sample a l r o comes = inr comes.idle.sound
 
@@ -145,10 +146,10 @@ not_faulty answer s l status_is other (inr sound) = sound
 
 -- ---- the input
 
-source_unread : (lang : Language) (name text : List ℕ) (r : Reading) (o : Outcome) (Then : lang.Program → Type 0) → ((p : lang.Program) → Then p → IsUnread r) → OfSource lang name text r o Then → IsUnread r
-source_unread lang name text r o Then f (faulty fault cause unread is) = unread
-source_unread lang name text r o Then f (later cause unread is) = unread
-source_unread lang name text r o Then f (accepted program typed goes_on) = f program goes_on
+source_unread : (s : Sources) (name text : List ℕ) (r : Reading) (o : Outcome) (Then : s.Program → Type 0) → ((p : s.Program) → Then p → IsUnread r) → OfSource s name text r o Then → IsUnread r
+source_unread s name text r o Then f (faulty fault cause unread is) = unread
+source_unread s name text r o Then f (later cause unread is) = unread
+source_unread s name text r o Then f (accepted program typed goes_on) = f program goes_on
 
 image_unread : (name bytes : List ℕ) (r : Reading) (o : Outcome) (Then : Image → Type 0) → ((i : Image) → Then i → IsUnread r) → OfImage name bytes r o Then → IsUnread r
 image_unread name bytes r o Then f (bad fault cause unread is) = unread
@@ -160,11 +161,11 @@ file_unread a most l r o Then f (long cause unread is) = unread
 file_unread a most l r o Then f (parts.loaded bytes from goes_on) = f bytes goes_on
 
 job_unread : (lang : Language) (v : Verb) (a : Asked) (l : Loading) (r : Reading) (o : Outcome) → v ≢ verb.Exec → ComesOf lang v a l r o → IsUnread r
-job_unread lang verb.Run a l r o other comes = file_unread a _ l r o _ (λ text. source_unread lang _ text r o _ (λ program it. it.0)) comes
+job_unread lang verb.Run a l r o other comes = file_unread a _ l r o _ (λ text. source_unread lang.compiled _ text r o _ (λ program it. it.0)) comes
 job_unread lang verb.Exec a l r o other comes = absurd (other refl)
 job_unread lang verb.Migrate a l r o other comes = file_unread a _ l r o _ (λ bytes. image_unread _ bytes r o _ (λ image it. it.unread)) comes
 job_unread lang verb.Compile a l r o other comes = comes.idle.unread
-job_unread lang verb.Check a l r o other comes = comes.idle.unread
+job_unread lang verb.Check a l r o other comes = file_unread a _ l r o _ (λ text. source_unread lang.checked _ text r o _ (λ program it. it.0)) comes
 job_unread lang verb.Audit a l r o other comes = comes.idle.unread
 job_unread lang verb.Sample a l r o other comes = comes.idle.unread
 

@@ -14,7 +14,7 @@ use Rattle.ob_settings.specs.declared.verb.Verb.{Verb}
 use Rattle.ob_settings.specs.declared.verb.Verb.TheVariants as verb
 use Rattle.ob_commands.specs.declared.answer.Answer.{Answer}
 use Rattle.ob_commands.specs.declared.answer.Answer.TheVariants.{Done, Usage, FileFault, FileLong, Refused, Bad, Ran, NotYet}
-use Rattle.ob_commands.specs.Parts.{Asked, Language, IsBadImage, IsLoaded, IsLong, asked, final_of, most_image_bytes, most_source_bytes}
+use Rattle.ob_commands.specs.Parts.{Asked, Language, Sources, IsBadImage, IsLoaded, IsLong, asked, final_of, most_image_bytes, most_source_bytes}
 use Rattle.ob_commands.specs.Top.{Devices, Handed}
 
 -- ---- what a job speaks of
@@ -25,13 +25,19 @@ Loads verb.Run most = most ≡ most_source_bytes
 Loads verb.Exec most = most ≡ most_image_bytes
 Loads verb.Migrate most = most ≡ most_image_bytes
 Loads verb.Compile most = ⊥
-Loads verb.Check most = ⊥
+Loads verb.Check most = most ≡ most_source_bytes
 Loads verb.Audit most = ⊥
 Loads verb.Sample most = ⊥
 
 abbrev pub HasSource : Verb → Asked → Loading → List ℕ → Type 0
 HasSource verb.Run a folder source = IsLoaded folder a.job.argument most_source_bytes source
+HasSource verb.Check a folder source = IsLoaded folder a.job.argument most_source_bytes source
 HasSource _ a folder source = ⊥
+
+-- what is known of the sources of a command
+abbrev pub sources_of : Language → Verb → Sources
+sources_of lang verb.Check = lang.checked
+sources_of lang _ = lang.compiled
 
 abbrev pub HasBytes : Verb → Asked → Loading → List ℕ → Type 0
 HasBytes verb.Exec a folder bytes = IsLoaded folder a.job.argument most_image_bytes bytes
@@ -43,17 +49,17 @@ HasBytes _ a folder bytes = ⊥
 pub record HasFault (lang : Language) (v : Verb) (a : Asked) (folder : Loading) (fault : SourceFault) : Type 0 where
   pub source : List ℕ
   pub has : HasSource v a folder source
-  pub is_fault : lang.IsFaultOf source fault
+  pub is_fault : (sources_of lang v).IsFaultOf source fault
 
 pub record HasLater (lang : Language) (v : Verb) (a : Asked) (folder : Loading) : Type 0 where
   pub source : List ℕ
   pub has : HasSource v a folder source
-  pub is_later : lang.IsLater source
+  pub is_later : (sources_of lang v).IsLater source
 
-pub record HasProgram (lang : Language) (v : Verb) (a : Asked) (folder : Loading) (program : lang.Program) : Type 0 where
+pub record HasProgram (lang : Language) (v : Verb) (a : Asked) (folder : Loading) (program : (sources_of lang v).Program) : Type 0 where
   pub source : List ℕ
   pub has : HasSource v a folder source
-  pub typed : lang.IsAccepted source program
+  pub typed : (sources_of lang v).IsAccepted source program
 
 pub record HasBadImage (v : Verb) (a : Asked) (folder : Loading) (bad : BadImage) : Type 0 where
   pub bytes : List ℕ
@@ -75,14 +81,15 @@ pub record RunEnds (a : Asked) (image : Image) (r : Reading) (e : Ending) : Type
 
 -- the ending that the status tells is that of the definition's run
 abbrev pub HasEnding : Language → Verb → Asked → Devices → Ending → Type 0
-HasEnding lang verb.Run a d e = (program : lang.Program) × HasProgram lang verb.Run a d.folder program × (e ≡ (final_of a (lang.code_of program) [] closed).ending)
+HasEnding lang verb.Run a d e = (program : lang.compiled.Program) × HasProgram lang verb.Run a d.folder program × (e ≡ (final_of a (lang.code_of program) [] closed).ending)
 HasEnding lang verb.Exec a d e = (image : Image) × HasImage verb.Exec a d.folder image × RunEnds a image d.input e
 HasEnding lang _ a d e = ⊥
 
 -- the command did its work
-abbrev pub HasDone : Verb → Asked → Loading → Type 0
-HasDone verb.Migrate a folder = (image : Image) × HasImage verb.Migrate a folder image
-HasDone _ a folder = ⊥
+abbrev pub HasDone : Language → Verb → Asked → Loading → Type 0
+HasDone lang verb.Check a folder = (program : lang.checked.Program) × HasProgram lang verb.Check a folder program
+HasDone lang verb.Migrate a folder = (image : Image) × HasImage verb.Migrate a folder image
+HasDone lang _ a folder = ⊥
 
 -- the source or the image is one that can't be done yet, or the command is
 abbrev pub CannotYet : Language → Verb → Asked → Loading → Type 0
@@ -90,14 +97,14 @@ CannotYet lang verb.Run a folder = HasLater lang verb.Run a folder
 CannotYet lang verb.Exec a folder = ⊥
 CannotYet lang verb.Migrate a folder = ⊥
 CannotYet lang verb.Compile a folder = ⊤
-CannotYet lang verb.Check a folder = ⊤
+CannotYet lang verb.Check a folder = HasLater lang verb.Check a folder
 CannotYet lang verb.Audit a folder = ⊤
 CannotYet lang verb.Sample a folder = ⊤
 
 -- ---- the table, for a job
 
 abbrev pub Cause : Language → Answer → Verb → Asked → Devices → Type 0
-Cause lang Done v a d = HasDone v a d.folder
+Cause lang Done v a d = HasDone lang v a d.folder
 Cause lang Usage v a d = ⊥
 Cause lang FileFault v a d = (most : ℕ) × Loads v most × IsUnavailable d.folder a.job.argument
 Cause lang FileLong v a d = (most : ℕ) × Loads v most × IsLong d.folder a.job.argument most

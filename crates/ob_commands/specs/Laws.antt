@@ -13,25 +13,27 @@ use Rattle.ob_model.specs.Endings as endings
 use Rattle.ob_model.specs.Endings.{closed}
 use Rattle.ob_code.specs.declared.faults.BadImage.{BadImage}
 use Rattle.ob_settings.specs.declared.job.Job.{Job}
+use Rattle.ob_settings.specs.declared.verb.Verb.{Verb}
 use Rattle.ob_settings.specs.declared.verb.Verb.TheVariants as verb
 use Rattle.ob_settings.specs.Jobs.{IsJobFor, IsUsage, IsUsageFor}
 use Rattle.ob_commands.specs.declared.answer.Answer.{Answer}
 use Rattle.ob_commands.specs.declared.answer.Answer.TheVariants.{Done, Usage, FileFault, FileLong, Refused, Ran, NotYet}
-use Rattle.ob_commands.specs.Answers.{Outcome, status_of, told_why}
-use Rattle.ob_commands.specs.Parts.{Language, IsLong, asked, final_of, most_source_bytes, run_outcome}
+use Rattle.ob_commands.specs.Answers.{Outcome, status_of, told_why, wrote}
+use Rattle.ob_commands.specs.Parts.{Language, Sources, IsLoaded, IsLong, asked, final_of, most_source_bytes, run_outcome}
+use Rattle.ob_commands.specs.Check.{ok_line}
 use Rattle.ob_commands.specs.Top.{Answers, Ask, Comes, Devices, Does, Handed}
-use Rattle.ob_commands.specs.Causes.{CauseOf, CannotYet, HasBadImage, HasEnding, HasFault, Loads}
+use Rattle.ob_commands.specs.Causes.{CauseOf, CannotYet, HasBadImage, HasEnding, HasFault, Loads, sources_of}
 
--- ---- languages
+-- ---- what is known of sources
 
 -- each source comes to one outcome at most, and no fault of a source is want of memory
-pub record IsExact (lang : Language) : Type 0 where
-  pub one_fault : (text : List ℕ) (f g : SourceFault) → lang.IsFaultOf text f → lang.IsFaultOf text g → f ≡ g
-  pub one_program : (text : List ℕ) (p q : lang.Program) → lang.IsAccepted text p → lang.IsAccepted text q → p ≡ q
-  pub fault_or_later : (text : List ℕ) (f : SourceFault) → lang.IsFaultOf text f → ¬ lang.IsLater text
-  pub fault_or_program : (text : List ℕ) (f : SourceFault) (p : lang.Program) → lang.IsFaultOf text f → ¬ lang.IsAccepted text p
-  pub later_or_program : (text : List ℕ) (p : lang.Program) → lang.IsLater text → ¬ lang.IsAccepted text p
-  pub not_memory : (text : List ℕ) → ¬ lang.IsFaultOf text source.NoMemory
+pub record IsExact (s : Sources) : Type 0 where
+  pub one_fault : (text : List ℕ) (f g : SourceFault) → s.IsFaultOf text f → s.IsFaultOf text g → f ≡ g
+  pub one_program : (text : List ℕ) (p q : s.Program) → s.IsAccepted text p → s.IsAccepted text q → p ≡ q
+  pub fault_or_later : (text : List ℕ) (f : SourceFault) → s.IsFaultOf text f → ¬ s.IsLater text
+  pub fault_or_program : (text : List ℕ) (f : SourceFault) (p : s.Program) → s.IsFaultOf text f → ¬ s.IsAccepted text p
+  pub later_or_program : (text : List ℕ) (p : s.Program) → s.IsLater text → ¬ s.IsAccepted text p
+  pub not_memory : (text : List ℕ) → ¬ s.IsFaultOf text source.NoMemory
 
 -- ---- the table
 
@@ -183,29 +185,56 @@ FailedWhen lang = (h : Handed) (d : Devices) (status n : ℕ) → Answers lang h
 
 -- ---- sources
 
--- the file is a source of a job of `run`
-pub record HasText (h : Handed) (d : Devices) (job : Job) (text : List ℕ) : Type 0 where
+-- the commands that take a source
+abbrev pub TakesSource : Verb → Type 0
+TakesSource verb.Run = ⊤
+TakesSource verb.Check = ⊤
+TakesSource _ = ⊥
+
+-- the file is a source of a job of this command
+pub record HasText (h : Handed) (d : Devices) (v : Verb) (job : Job) (text : List ℕ) : Type 0 where
   pub asks : AsksFor h job
-  pub is_run : job.verb ≡ verb.Run
+  pub verb_is : job.verb ≡ v
   pub file : HasFile d.folder job.argument text
   pub short : length text ≤ most_source_bytes
 
 abbrev pub FaultWhen : Language → Type 0
 FaultWhen lang =
-    (h : Handed) (d : Devices) (status n : ℕ) (job : Job) (text : List ℕ) (fault : SourceFault) → Answers lang h d status n → HasText h d job text →
-    lang.IsFaultOf text fault → ComesTo d (told_why job.argument (Refused fault)) status n
+    (h : Handed) (d : Devices) (status n : ℕ) (v : Verb) (job : Job) (text : List ℕ) (fault : SourceFault) → Answers lang h d status n → TakesSource v →
+    HasText h d v job text → (sources_of lang v).IsFaultOf text fault → ComesTo d (told_why job.argument (Refused fault)) status n
 
 abbrev pub LaterWhen : Language → Type 0
 LaterWhen lang =
-    (h : Handed) (d : Devices) (status n : ℕ) (job : Job) (text : List ℕ) → Answers lang h d status n → HasText h d job text → lang.IsLater text →
-    ComesTo d (told_why job.argument NotYet) status n
+    (h : Handed) (d : Devices) (status n : ℕ) (v : Verb) (job : Job) (text : List ℕ) → Answers lang h d status n → TakesSource v → HasText h d v job text →
+    (sources_of lang v).IsLater text → ComesTo d (told_why job.argument NotYet) status n
 
 -- an accepted source is run as its image says
 abbrev pub RunWhen : Language → Type 0
 RunWhen lang =
-    (h : Handed) (d : Devices) (status n : ℕ) (job : Job) (text : List ℕ) (program : lang.Program) → Answers lang h d status n → HasText h d job text →
-    lang.IsAccepted text program →
+    (h : Handed) (d : Devices) (status n : ℕ) (job : Job) (text : List ℕ) (program : lang.compiled.Program) → Answers lang h d status n →
+    HasText h d verb.Run job text → lang.compiled.IsAccepted text program →
     (let a = asked job h.makers h.watchers in ComesTo d (run_outcome a (final_of a (lang.code_of program) [] closed)) status n)
+
+-- of a source that is checked, `ok` is written exactly where it is accepted
+abbrev pub CheckWhen : Language → Type 0
+CheckWhen lang =
+    (h : Handed) (d : Devices) (status n : ℕ) (job : Job) (text : List ℕ) (program : lang.checked.Program) → Answers lang h d status n →
+    HasText h d verb.Check job text → lang.checked.IsAccepted text program → ComesTo d (wrote ok_line) status n
+
+pub record IsChecked (lang : Language) (d : Devices) (job : Job) (status n : ℕ) : Type 0 where
+  pub text : List ℕ
+  pub from : IsLoaded d.folder job.argument most_source_bytes text
+  pub program : lang.checked.Program
+  pub accepted : lang.checked.IsAccepted text program
+  pub status_is : status ≡ 0
+  pub out : IsWritten d.out ok_line
+  pub err : IsWritten d.err []
+  pub count : n ≡ 0
+
+abbrev pub CheckOnly : Language → Type 0
+CheckOnly lang =
+    (h : Handed) (d : Devices) (status n : ℕ) (job : Job) → Answers lang h d status n → AsksFor h job → job.verb ≡ verb.Check → status < 128 →
+    IsChecked lang d job status n
 
 -- the faults of a source come only where it has them
 pub record FaultTold (lang : Language) (h : Handed) (d : Devices) (status n : ℕ) : Type 0 where

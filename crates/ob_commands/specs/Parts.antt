@@ -26,13 +26,18 @@ use Rattle.ob_settings.specs.declared.job.Job.{Job}
 use Rattle.ob_commands.specs.declared.answer.Answer.TheVariants.{FileFault, FileLong, Refused, Bad, Ran, NotYet}
 use Rattle.ob_commands.specs.Answers.{Outcome, told_why, report_of}
 
--- what a compiler promises of a source: its fault, that it can't be compiled yet, that it is a program's, and the image of a program
-pub record Language : Type 1 where
+-- what is known of sources: the fault of one, that nothing can be done with one yet, and that one is a program's
+pub record Sources : Type 1 where
   pub Program : Type 0
   pub IsFaultOf : List ℕ → SourceFault → Type 0
   pub IsLater : List ℕ → Type 0
   pub IsAccepted : List ℕ → Program → Type 0
-  pub code_of : Program → Image
+
+-- what a compiler promises: the sources that it compiles, the image of a program, and the sources that it checks
+pub record Language : Type 1 where
+  pub compiled : Sources
+  pub code_of : compiled.Program → Image
+  pub checked : Sources
 
 -- a maker of manufactured values: its cycle and its place there
 pub record Supply : Type 0 where
@@ -78,10 +83,10 @@ most_image_bytes = 67108864
 
 -- ---- sources
 
-pub data OfSource (lang : Language) (name source : List ℕ) (input : Reading) (o : Outcome) (Then : lang.Program → Type 0) : Type 0 where
-  faulty : (fault : SourceFault) (cause : lang.IsFaultOf source fault) (unread : IsUnread input) (is : o ≡ told_why name (Refused fault)) → OfSource lang name source input o Then
-  later : (cause : lang.IsLater source) (unread : IsUnread input) (is : o ≡ told_why name NotYet) → OfSource lang name source input o Then
-  accepted : (program : lang.Program) (typed : lang.IsAccepted source program) (goes_on : Then program) → OfSource lang name source input o Then
+pub data OfSource (s : Sources) (name source : List ℕ) (input : Reading) (o : Outcome) (Then : s.Program → Type 0) : Type 0 where
+  faulty : (fault : SourceFault) (cause : s.IsFaultOf source fault) (unread : IsUnread input) (is : o ≡ told_why name (Refused fault)) → OfSource s name source input o Then
+  later : (cause : s.IsLater source) (unread : IsUnread input) (is : o ≡ told_why name NotYet) → OfSource s name source input o Then
+  accepted : (program : s.Program) (typed : s.IsAccepted source program) (goes_on : Then program) → OfSource s name source input o Then
 
 -- ---- images
 

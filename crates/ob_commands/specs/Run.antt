@@ -11,4 +11,4 @@ use Rattle.ob_commands.specs.Answers.{Outcome}
 use Rattle.ob_commands.specs.Parts.{Asked, Language, OfSource, RunsWith}
 
 abbrev pub Run : (lang : Language) → Asked → (source : List ℕ) → Reading → Outcome → Type 0
-Run lang a source input o = OfSource lang a.job.argument source input o (λ program. IsUnread input × RunsWith a (lang.code_of program) [] closed o)
+Run lang a source input o = OfSource lang.compiled a.job.argument source input o (λ program. IsUnread input × RunsWith a (lang.code_of program) [] closed o)

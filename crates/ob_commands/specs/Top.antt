@@ -13,6 +13,7 @@ use Rattle.ob_commands.specs.Answers.{Outcome, status_of, told_why, TakesMemory}
 use Rattle.ob_commands.specs.Parts.{Asked, Language, Supply, asked, OfFile, most_source_bytes, most_image_bytes}
 use Rattle.ob_commands.specs.Run.{Run}
 use Rattle.ob_commands.specs.Exec.{Exec}
+use Rattle.ob_commands.specs.Check.{Check}
 use Rattle.ob_commands.specs.Migrate.{Migrate}
 
 -- all devices, before and after
@@ -55,7 +56,7 @@ abbrev pub ComesOf : Language → Verb → Asked → Loading → Reading → Out
 ComesOf lang verb.Run a folder input o = OnSource a folder input o (λ source. Run lang a source input o)
 ComesOf lang verb.Compile a folder input o = IsLater a folder input o
 ComesOf lang verb.Exec a folder input o = OnImage a folder input o (λ bytes. Exec a bytes input o)
-ComesOf lang verb.Check a folder input o = IsLater a folder input o
+ComesOf lang verb.Check a folder input o = OnSource a folder input o (λ source. Check lang.checked a source input o)
 ComesOf lang verb.Audit a folder input o = IsLater a folder input o
 ComesOf lang verb.Sample a folder input o = IsLater a folder input o
 ComesOf lang verb.Migrate a folder input o = OnImage a folder input o (λ bytes. Migrate a bytes input o)

@@ -7,13 +7,14 @@ ghost use Rattle.ob_settings.specs.declared.job.Job.{Job as JobValue};
 ghost use Rattle.ob_commands.specs.Exec.{Exec};
 ghost use Rattle.ob_commands.specs.Migrate.{Migrate};
 ghost use Rattle.ob_commands.specs.Top.{IsIdle, OnImage};
-ghost use Rattle.ob_commands.specs.Delivery.{CameFor, CameTo, IsNoImage, IsPut};
+ghost use Rattle.ob_commands.specs.Delivery.{CameFor, CameTo, IsNoImage};
 
 use crate::answer::Answer;
 use crate::came::Came;
 use crate::files::load;
 use crate::running::run_image;
-use ob_base::{Folder, NoMemory, Sink, Source, write_all};
+use crate::writing::written;
+use ob_base::{Folder, NoMemory, Sink, Source};
 use ob_code::{BadImage, Part, Verified, verify};
 use ob_image::{ImageFault, read_image, write_image};
 use ob_maker::Maker;
@@ -91,17 +92,6 @@ pub fn exec<F: Folder, S: Source, K: Sink, M: Maker, W: Watcher>(
     match load(alloc, name, MOST_IMAGE_BYTES, folder) {
         Ok(bytes) => exec_bytes(alloc, job, &bytes, maker, watchers, input, out),
         Err(came) => came,
-    }
-}
-
-/// Writes bytes to the output sink.
-fn written<K: Sink>(bytes: &[u8], out: &mut K) -> Came
-    ensures { IsPut bytes.now result (record { taken_before = K.taken out.old; taken_now = K.taken out.new; tally_before = K.tally out.old; tally_now = K.tally out.new; faults_before = K.faults out.old; faults_now = K.faults out.new }) }
-{
-    if write_all(out, bytes).is_err() {
-        Came::Cut(0)
-    } else {
-        Came::Due(Answer::Done, 0)
     }
 }
 

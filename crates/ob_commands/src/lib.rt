@@ -3,10 +3,10 @@
 //! `job_of` reads the words.
 //!
 //! The contract of `top` stands here too, over what a compiler promises of sources (`Language`): one clause,
-//! `Top`, by a page for each command (`Run`, `Exec`, `Migrate`) over what they have in common (`Parts`) and
+//! `Top`, by a page for each command (`Run`, `Exec`, `Check`, `Migrate`) over what they have in common (`Parts`) and
 //! what a job comes to (`Answers`). These are to be believed, with `Causes`, the table of answers and their
-//! causes, and `Laws`, whose proofs for each language are this crate's laws, `proofs/Rows`, `proofs/Caused`
-//! and `proofs/Meant`. `Delivery` serves the proof.
+//! causes, and `Laws`, whose proofs for each language are this crate's laws, `proofs/Rows`, `proofs/Caused`,
+//! `proofs/Determined` and `proofs/Checked`. `Delivery` serves the proof.
 //!
 //! Stands on `ob_settings` for the words, on `ob_report` for texts, on `ob_image`, `ob_code` and `ob_machine`
 //! for images and their runs, on `ob_maker` and `ob_watch` for what is handed in, and on what
@@ -22,6 +22,7 @@ pub use running::run_image;
 pub use status::Status;
 pub use telling::deliver;
 pub use words::job_of;
+pub use writing::written;
 
 mod answer;
 mod came;
@@ -33,3 +34,4 @@ mod running;
 mod status;
 mod telling;
 mod words;
+mod writing;

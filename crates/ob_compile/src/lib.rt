@@ -8,7 +8,7 @@
 #![tactic(auto)]
 
 pub use laws::{law_before_limits, law_one_outcome, law_some_outcome};
-pub use stages::{accept, front};
+pub use stages::{accept, examine, front};
 
 mod laws;
 mod stages;

@@ -2,11 +2,12 @@ ghost use Rattle.std.specs.Prelude.{◌≡◌, ◌≤◌, length, Ok, MatchResul
 ghost use Rattle.ob_tree.specs.ProgramValid.{ValidProgram};
 ghost use Rattle.ob_tree.specs.ProgramView.{program_tree};
 ghost use Rattle.ob_typed.specs.ProgramView.{typed_program};
+ghost use Rattle.ob_typed.specs.TypedTree.{TypedProgram};
 ghost use Rattle.ob_sources.specs.Reading.{IsLexed, IsParsed};
 ghost use Rattle.ob_sources.specs.Stages.{MayStop};
 ghost use Rattle.ob_compile.specs.Accepted.{Accepted, ComesTo, IsChecked, IsLimited, IsTyped, most_source_bytes, type_fault_at};
 
-use ob_base::NoMemory;
+use ob_base::{NoMemory, let_go};
 use ob_limits::{Limit, limits};
 use ob_prelude::{complete, law_completion};
 use ob_sources::{Source, position_at, read};
@@ -46,6 +47,20 @@ pub fn accept(alloc: Global, bytes: &[u8]) -> Result<Typed, SourceFault>
 {
     match front(alloc, bytes) {
         Ok(t) => limited(t),
+        Err(fault) => Err(fault),
+    }
+}
+
+/// Looks for the first fault of a source of at most 2^20 bytes, whose typed tree isn't kept: the faults of `accept`.
+pub fn examine(alloc: Global, bytes: &[u8]) -> Result<(), SourceFault>
+    requires { length bytes.now ≤ most_source_bytes }
+    ensures { MatchResult result (λ _. (t : TypedProgram) × Accepted bytes.now t) (MayStop (ComesTo bytes.now)) }
+{
+    match accept(alloc, bytes) {
+        Ok(typed) => {
+            let_go(typed);
+            Ok(())
+        }
         Err(fault) => Err(fault),
     }
 }

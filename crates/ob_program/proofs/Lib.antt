@@ -1,3 +1,4 @@
 mod Running
+mod Checking
 mod Exact
 mod Answering

@@ -19,7 +19,7 @@ use Rattle.ob_commands.specs.Parts.{Asked, RunsOn, RunsWith, faulty as has_fault
 use Rattle.ob_commands.specs.Run.{Run}
 use Rattle.ob_commands.specs.Delivery.{CameTo}
 use Rattle.ob_commands.proofs.Coming.{came_as, why}
-use Rattle.ob_program.specs.Language.{first_forms}
+use Rattle.ob_program.specs.Language.{language}
 use Rattle.ob_program.specs.Refusals.{refused}
 
 -- a source without bytes
@@ -38,13 +38,13 @@ of_nothing a image o input closed it is =
 of_nothing a image o input failed it is = let rose = it.cause.1 in absurd (omega (arith, rose))
 
 pub compiled_came : (a : Asked) (seen : List Watch) (text : List ℕ) (image : Image) (input : Reading) (c : Came) (w : Writing) → IsUnread input → IsCompiled text image → CameTo a seen (λ o. RunsOn a image nothing o) (IsUnread nothing) c w →
-    CameTo a seen (λ o. Run first_forms a text input o) (IsUnread input) c w
+    CameTo a seen (λ o. Run language a text input o) (IsUnread input) c w
 compiled_came a seen text image input c w quiet compiled it =
-    came_as a seen (λ o. RunsOn a image nothing o) (λ o. Run first_forms a text input o) (IsUnread nothing) (IsUnread input) c w
+    came_as a seen (λ o. RunsOn a image nothing o) (λ o. Run language a text input o) (IsUnread nothing) (IsUnread input) c w
     (λ o run. accepted compiled.form compiled.is_form (quiet, subst (λ i. RunsWith a i [] closed o) compiled.image_is (of_nothing a image o run.input run.input_end run.is_input run.is)))
     (λ idle. quiet) it
 
-refused_came : (a : Asked) (seen : List Watch) (text : List ℕ) (input : Reading) (r : Refusal) (w : Writing) → IsUnread input → IsUnwritten w → Refuses text r → CameTo a seen (λ o. Run first_forms a text input o) (IsUnread input) (refused r) w
+refused_came : (a : Asked) (seen : List Watch) (text : List ℕ) (input : Reading) (r : Refusal) (w : Writing) → IsUnread input → IsUnwritten w → Refuses text r → CameTo a seen (λ o. Run language a text input o) (IsUnread input) (refused r) w
 refused_came a seen text input NotYet w quiet unwritten it = why a seen _ answer.NotYet 0 w refl unwritten refl (later it quiet refl)
 refused_came a seen text input (Fault (source.Lex kind line column)) w quiet unwritten it = why a seen _ _ 0 w refl unwritten refl (has_fault (source.Lex kind line column) it quiet refl)
 refused_came a seen text input (Fault (source.Syntax kind line column)) w quiet unwritten it = why a seen _ _ 0 w refl unwritten refl (has_fault (source.Syntax kind line column) it quiet refl)
@@ -53,6 +53,6 @@ refused_came a seen text input (Fault source.Statics) w quiet unwritten it = abs
 refused_came a seen text input (Fault source.Code) w quiet unwritten it = absurd it
 refused_came a seen text input (Fault source.NoMemory) w quiet unwritten it = (quiet, unwritten)
 
-pub refused_as : (a : Asked) (seen : List Watch) (text : List ℕ) (input : Reading) (r : Refusal) (c : Came) (w : Writing) → c ≡ refused r → IsUnread input → IsUnwritten w → Refuses text r → CameTo a seen (λ o. Run first_forms a text input o) (IsUnread input) c w
+pub refused_as : (a : Asked) (seen : List Watch) (text : List ℕ) (input : Reading) (r : Refusal) (c : Came) (w : Writing) → c ≡ refused r → IsUnread input → IsUnwritten w → Refuses text r → CameTo a seen (λ o. Run language a text input o) (IsUnread input) c w
 refused_as a seen text input r c w is quiet unwritten it =
-    subst (λ x. CameTo a seen (λ o. Run first_forms a text input o) (IsUnread input) x w) (sym is) (refused_came a seen text input r w quiet unwritten it)
+    subst (λ x. CameTo a seen (λ o. Run language a text input o) (IsUnread input) x w) (sym is) (refused_came a seen text input r w quiet unwritten it)

@@ -3,15 +3,16 @@
 //! job comes to an outcome, and the outcome is delivered. The rows of the table of answers and their causes
 //! are laws above it.
 //!
-//! To be believed: `specs/Language` here, by which sources are what `ob_first` says of them, and the
-//! definitions of `ob_commands`. Stands on `ob_commands` for all that needs no compiler, on `ob_first` for
-//! sources, on `ob_settings` for the words, and on `ob_base` for its devices.
+//! To be believed: `specs/Language` here, by which sources that are run are what `ob_first` says of them, and sources that
+//! are checked what `ob_compile` says, and the definitions of `ob_commands`. Stands on `ob_commands` for all that needs no
+//! compiler, on `ob_first` and `ob_compile` for sources, on `ob_settings` for the words, and on `ob_base` for its devices.
 #![tactic(auto)]
 
 pub use laws::{law_causes, law_faults, law_refusals, law_sources};
 pub use ob_commands::Status;
 pub use program::top;
 
+mod check;
 mod laws;
 mod no_input;
 mod program;

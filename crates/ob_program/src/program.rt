@@ -3,9 +3,10 @@ ghost use Rattle.ob_base.specs.Devices.{IsUnread, Reading};
 ghost use Rattle.ob_model.specs.Settings.{IsFit};
 ghost use Rattle.ob_commands.specs.Top.{Answers, ComesOf, IsIdle};
 ghost use Rattle.ob_commands.specs.Delivery.{CameFor, CameTo, Delivered};
-ghost use Rattle.ob_program.specs.Language.{first_forms};
+ghost use Rattle.ob_program.specs.Language.{language};
 ghost use Rattle.ob_program.specs.Refusals.{came_of_fault, runs};
 
+use crate::check::check;
 use crate::run::run;
 use ob_base::{Folder, Sink, Source};
 use ob_commands::{Answer, Came, Status, deliver, exec, job_of, migrate};
@@ -35,12 +36,13 @@ fn perform_alone<F: Folder, K: Sink>(
     requires alone { runs job.now.verb ≡ false }
     requires named { name.now ≡ job.now.argument }
     ensures { (input : Reading) → IsUnread input → CameFor job.now
-        (λ a o. ComesOf first_forms job.now.verb a (record { files = F.files folder.old; faults_before = F.faults folder.old; faults_now = F.faults folder.new }) input o)
+        (λ a o. ComesOf language job.now.verb a (record { files = F.files folder.old; faults_before = F.faults folder.old; faults_now = F.faults folder.new }) input o)
         (IsIdle (record { files = F.files folder.old; faults_before = F.faults folder.old; faults_now = F.faults folder.new }) input)
         result
         (record { taken_before = K.taken out.old; taken_now = K.taken out.new; tally_before = K.tally out.old; tally_now = K.tally out.new; faults_before = K.faults out.old; faults_now = K.faults out.new }) }
 {
     match job.verb {
+        Verb::Check => check(alloc, job, name, folder, out),
         Verb::Migrate => migrate(alloc, job, name, folder, out),
         _ => Came::Due(Answer::NotYet, 0),
     }
@@ -62,7 +64,7 @@ fn perform<F: Folder, S: Source, K: Sink, M: Maker, W: Watcher>(
     requires named { name.now ≡ job.now.argument }
     ensures { CameTo (record { job = job.now; supply = record { cycle = M.cycle maker.old; place = M.place maker.old }; watchers = map (λ w. record { capacity = W.capacity w; kept = W.kept w; total = W.told w }) watchers.old.items })
         (map (λ w. record { capacity = W.capacity w; kept = W.kept w; total = W.told w }) watchers.new.items)
-        (λ o. ComesOf first_forms job.now.verb (record { job = job.now; supply = record { cycle = M.cycle maker.old; place = M.place maker.old }; watchers = map (λ w. record { capacity = W.capacity w; kept = W.kept w; total = W.told w }) watchers.old.items }) (record { files = F.files folder.old; faults_before = F.faults folder.old; faults_now = F.faults folder.new }) (record { left_before = S.left input.old; left_now = S.left input.new; faults_before = S.faults input.old; faults_now = S.faults input.new }) o)
+        (λ o. ComesOf language job.now.verb (record { job = job.now; supply = record { cycle = M.cycle maker.old; place = M.place maker.old }; watchers = map (λ w. record { capacity = W.capacity w; kept = W.kept w; total = W.told w }) watchers.old.items }) (record { files = F.files folder.old; faults_before = F.faults folder.old; faults_now = F.faults folder.new }) (record { left_before = S.left input.old; left_now = S.left input.new; faults_before = S.faults input.old; faults_now = S.faults input.new }) o)
         (IsIdle (record { files = F.files folder.old; faults_before = F.faults folder.old; faults_now = F.faults folder.new }) (record { left_before = S.left input.old; left_now = S.left input.new; faults_before = S.faults input.old; faults_now = S.faults input.new }))
         result
         (record { taken_before = K.taken out.old; taken_now = K.taken out.new; tally_before = K.tally out.old; tally_now = K.tally out.new; faults_before = K.faults out.old; faults_now = K.faults out.new }) }
@@ -94,13 +96,14 @@ fn refuse<E: Sink>(
 ///
 /// `run FILE` loads a source from `folder`, compiles it and runs it on `out`. A program that can be compiled
 /// so far reads nothing, so no byte of `input` is taken. `exec IMAGE` loads an image, verifies it and runs
-/// it on `input` and `out`, with the image's profile where no `--profile` is given. `migrate IMAGE` writes
-/// an image to `out` in version 2 of its format. Manufactured values come from the maker that `--maker`
+/// it on `input` and `out`, with the image's profile where no `--profile` is given. `check FILE` loads a source
+/// and writes `ok` and a line feed where it is accepted. `migrate IMAGE` writes an image to `out` in version 2
+/// of its format. Manufactured values come from the maker that `--maker`
 /// names, the first, second or third of `makers`. Where a run doesn't end by the program's own ending, and
 /// where there is none, `err` gets one line that says why; with `--report` it gets behind that of a run what
 /// each of the `watchers` was told. Makers and watchers are dropped at the end, after that.
 ///
-/// The status is that of the run's number modulo 128, 0 for `migrate`, or
+/// The status is that of the run's number modulo 128, 0 for `check` and `migrate`, or
 ///
 /// - 128: the words ask for nothing, or for a maker that isn't there.
 /// - 129: the folder failed, or has no such file.
@@ -108,7 +111,9 @@ fn refuse<E: Sink>(
 /// - 131: no token can be taken at a place of the source (C99 6.4).
 /// - 132: no program goes on with the token at a place, or none ends where the source ends (C99 6.7 to
 ///   6.9).
-/// - 134: only programs that are nested too deep go on with the token at a place.
+/// - 133: a rule of types is broken at a place of the source, which `check` alone looks for (C99 6.5 to 6.9).
+/// - 134: only programs that are nested too deep go on with the token at a place; or, for `check`, the static objects or
+///   the functions of the source are over a limit.
 /// - 135: the file is no image, or its image breaks a rule.
 /// - 136: the steps of the run ended.
 /// - 137: a division by zero.
@@ -132,7 +137,7 @@ pub fn top<F: Folder, S: Source, K: Sink, E: Sink>(
     mut makers: Vec<Box<dyn Maker>>,
     mut watchers: Vec<Box<dyn Watcher>>,
 ) -> Status
-    ensures { Answers first_forms
+    ensures { Answers language
         (record {
           words = map string_bytes words.items;
           makers = map (λ m. record { cycle = cycle m; place = place m }) makers.items;

@@ -4,7 +4,7 @@ ghost use Rattle.ob_model.specs.Settings.{IsFit};
 ghost use Rattle.ob_commands.specs.Run.{Run};
 ghost use Rattle.ob_commands.specs.Top.{IsIdle, OnSource};
 ghost use Rattle.ob_commands.specs.Delivery.{CameTo};
-ghost use Rattle.ob_program.specs.Language.{first_forms};
+ghost use Rattle.ob_program.specs.Language.{language};
 ghost use Rattle.ob_program.specs.Refusals.{faulty, refused};
 
 use crate::no_input::NoInput;
@@ -18,10 +18,10 @@ use ob_watch::Watcher;
 use std::alloc::Global;
 
 /// The most bytes that a source has.
-const MOST_SOURCE_BYTES: usize = 1_048_576;
+pub(crate) const MOST_SOURCE_BYTES: usize = 1_048_576;
 
 /// What a source with this fault came to.
-fn faulty(fault: SourceFault) -> Came
+pub(crate) fn faulty(fault: SourceFault) -> Came
     ensures { result ≡ faulty fault }
 {
     match fault {
@@ -54,7 +54,7 @@ fn run_source<K: Sink, M: Maker, W: Watcher>(
     requires short { length bytes.now ≤ 2 ^ 20 }
     ensures { (input : Reading) → IsUnread input → CameTo (record { job = job.now; supply = record { cycle = M.cycle maker.old; place = M.place maker.old }; watchers = map (λ w. record { capacity = W.capacity w; kept = W.kept w; total = W.told w }) watchers.old.items })
         (map (λ w. record { capacity = W.capacity w; kept = W.kept w; total = W.told w }) watchers.new.items)
-        (Run first_forms (record { job = job.now; supply = record { cycle = M.cycle maker.old; place = M.place maker.old }; watchers = map (λ w. record { capacity = W.capacity w; kept = W.kept w; total = W.told w }) watchers.old.items }) bytes.now input)
+        (Run language (record { job = job.now; supply = record { cycle = M.cycle maker.old; place = M.place maker.old }; watchers = map (λ w. record { capacity = W.capacity w; kept = W.kept w; total = W.told w }) watchers.old.items }) bytes.now input)
         (IsUnread input)
         result
         (record { taken_before = K.taken out.old; taken_now = K.taken out.new; tally_before = K.tally out.old; tally_now = K.tally out.new; faults_before = K.faults out.old; faults_now = K.faults out.new }) }
@@ -80,7 +80,7 @@ pub(crate) fn run<F: Folder, K: Sink, M: Maker, W: Watcher>(
     requires named { name.now ≡ job.now.argument }
     ensures { (input : Reading) → IsUnread input → CameTo (record { job = job.now; supply = record { cycle = M.cycle maker.old; place = M.place maker.old }; watchers = map (λ w. record { capacity = W.capacity w; kept = W.kept w; total = W.told w }) watchers.old.items })
         (map (λ w. record { capacity = W.capacity w; kept = W.kept w; total = W.told w }) watchers.new.items)
-        (λ o. OnSource (record { job = job.now; supply = record { cycle = M.cycle maker.old; place = M.place maker.old }; watchers = map (λ w. record { capacity = W.capacity w; kept = W.kept w; total = W.told w }) watchers.old.items }) (record { files = F.files folder.old; faults_before = F.faults folder.old; faults_now = F.faults folder.new }) input o (λ source. Run first_forms (record { job = job.now; supply = record { cycle = M.cycle maker.old; place = M.place maker.old }; watchers = map (λ w. record { capacity = W.capacity w; kept = W.kept w; total = W.told w }) watchers.old.items }) source input o))
+        (λ o. OnSource (record { job = job.now; supply = record { cycle = M.cycle maker.old; place = M.place maker.old }; watchers = map (λ w. record { capacity = W.capacity w; kept = W.kept w; total = W.told w }) watchers.old.items }) (record { files = F.files folder.old; faults_before = F.faults folder.old; faults_now = F.faults folder.new }) input o (λ source. Run language (record { job = job.now; supply = record { cycle = M.cycle maker.old; place = M.place maker.old }; watchers = map (λ w. record { capacity = W.capacity w; kept = W.kept w; total = W.told w }) watchers.old.items }) source input o))
         (IsIdle (record { files = F.files folder.old; faults_before = F.faults folder.old; faults_now = F.faults folder.new }) input)
         result
         (record { taken_before = K.taken out.old; taken_now = K.taken out.new; tally_before = K.tally out.old; tally_now = K.tally out.new; faults_before = K.faults out.old; faults_now = K.faults out.new }) }

@@ -2,6 +2,7 @@
 //! for each way in which one fails.
 ghost use Rattle.std.specs.Prelude.{◌<◌};
 
+mod checks;
 mod exec;
 mod faults;
 mod forms;
@@ -127,7 +128,7 @@ const USAGE: &str =
     "usage: oblivious run|compile|exec|check|audit|sample|migrate ARGUMENT [OPTIONS]\n";
 
 /// Rows of words with the output, the error line and the status that they come to.
-const ROWS: [(&str, &str, &str, u8); 21] = [
+const ROWS: [(&str, &str, &str, u8); 22] = [
     ("run hello.c", "Hi", "", 3),
     ("run", "", USAGE, 128),
     ("run hello.c --steps 5 --steps 6", "", USAGE, 128),
@@ -157,7 +158,8 @@ const ROWS: [(&str, &str, &str, u8); 21] = [
         "oblivious: Steps\nwatcher 0: 0 events\nwatcher 1: 0 events\n",
         136,
     ),
-    ("check hello.c", "", "oblivious: NotYet\n", 145),
+    ("check hello.c", "ok\n", "", 0),
+    ("check gone.c", "", "oblivious: FileFault\n", 129),
     ("compile gone.c", "", "oblivious: NotYet\n", 145),
     ("audit hello.c --maker zero", "", "oblivious: NotYet\n", 145),
     ("sample 3", "", "oblivious: NotYet\n", 145),

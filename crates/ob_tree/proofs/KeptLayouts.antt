@@ -24,7 +24,7 @@ then_below : (f g : Layout → Option Layout) (o p : Option Layout) → Below o 
 then_below f g None p h k l is = absurd (none-some l is)
 then_below f g (Some x) p h k l is = ap (option_and_then g) (h x refl) ∙ k x l is
 
-type_below : (f g : Known) → ((n : ℕ) → Below (f n) (g n)) → (t : PlainType) → Below (type_layout f t) (type_layout g t)
+pub type_below : (f g : Known) → ((n : ℕ) → Below (f n) (g n)) → (t : PlainType) → Below (type_layout f t) (type_layout g t)
 type_below f g h PlainType.Void l is = is
 type_below f g h (PlainType.Int k) l is = is
 type_below f g h (PlainType.Pointer t) l is = is
@@ -79,7 +79,7 @@ more_below (suc more) depth s n l is =
     let next : suc (more + depth) ≡ suc more + depth = omega arith in
     subst (λ k. struct_layout k s n ≡ Some l) next (depth_below (more + depth) s n l (more_below more depth s n l is))
 
-deeper_below : (depth d : ℕ) (s : PlainStructs) (n : ℕ) → depth ≤ d → Below (struct_layout depth s n) (struct_layout d s n)
+pub deeper_below : (depth d : ℕ) (s : PlainStructs) (n : ℕ) → depth ≤ d → Below (struct_layout depth s n) (struct_layout d s n)
 deeper_below depth d s n more l is =
     let whole : (d - depth) + depth ≡ d = omega arith in
     subst (λ k. struct_layout k s n ≡ Some l) whole (more_below (d - depth) depth s n l is)
