@@ -1,2 +1,5 @@
 pub mod FlagLists
+pub mod RaisedRows
+pub mod Walks
 pub mod AssignedRows
+pub mod HomeLists

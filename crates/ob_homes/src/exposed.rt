@@ -1,43 +1,74 @@
 //! Which variables of a function are exposed, so that more is done than to read and assign them: one walk of a tree
 //! raises a flag for each.
-ghost use Rattle.std.specs.Prelude.{◌≡◌, fold};
+ghost use Rattle.std.specs.Prelude.{◌≡◌, true, false, fold, replicate, slice_set, IfOk};
 ghost use Rattle.ob_tree.specs.TypeView.{plain_type, plain_types};
-ghost use Rattle.ob_typed.specs.TypedView.{typed_expr, typed_init, typed_lean, typed_option, typed_place, typed_stmt};
-ghost use Rattle.ob_homes.specs.Flags.{with_expr, with_init, with_lean, with_option, with_place, with_stmt, with_variable, with_variable_as};
+ghost use Rattle.ob_typed.specs.TypedView.{typed_expr, typed_function, typed_init, typed_lean, typed_option, typed_place, typed_stmt};
+ghost use Rattle.ob_homes.specs.Flags.{exposed_flags, with_expr, with_init, with_lean, with_option, with_place, with_stmt, with_variable, with_variable_as};
 
+use ob_base::NoMemory;
 use ob_conversions::types::same_type;
 use ob_tree::CType;
-use ob_typed::{TExpr, TInit, TLean, TNode, TPlace, TStmt};
+use ob_typed::{TExpr, TFunction, TInit, TLean, TNode, TPlace, TStmt};
+use std::alloc::Global;
+
+/// Whether each variable of a function is exposed.
+pub(crate) fn exposed_flags(alloc: Global, f: &TFunction) -> Result<Vec<bool>, NoMemory>
+    ensures { IfOk result (λ flags. flags.items ≡ exposed_flags (typed_function f.now)) }
+{
+    let mut flags = no_flags(alloc, f.locals.len())?;
+    expose_in_stmt(&f.body, &f.locals, &mut flags);
+    Ok(flags)
+}
+
+/// So many flags, none of which is raised.
+fn no_flags(alloc: Global, count: usize) -> Result<Vec<bool>, NoMemory>
+    ensures { IfOk result (λ flags. flags.items ≡ replicate count false) }
+{
+    Ok(vec![in alloc; false; count]?)
+}
+
+/// Raises the flag of this number, where there is one.
+fn raise(n: usize, flags: &mut [bool])
+    ensures { flags.new ≡ slice_set flags.old n true }
+{
+    if n < flags.len() {
+        flags[n] = true;
+    }
+}
 
 /// Raises the flag of a variable.
-fn expose(locals: &[CType], flags: &mut [bool], n: u32)
+fn expose(n: u32, locals: &[CType], flags: &mut [bool])
     ensures { flags.new ≡ with_variable n (plain_types locals.now) flags.old }
 {
-    let n = n as usize;
-    if n < locals.len() && n < flags.len() {
-        flags[n] = true;
+    match locals.get(n as usize) {
+        Some(_) => raise(n as usize, flags),
+        None => {}
     }
 }
 
 /// Raises the flag of a variable where it isn't of this type.
-fn expose_as(locals: &[CType], flags: &mut [bool], n: u32, ty: &CType)
+fn expose_as(n: u32, ty: &CType, locals: &[CType], flags: &mut [bool])
     ensures { flags.new ≡ with_variable_as n (plain_type ty.now) (plain_types locals.now) flags.old }
 {
-    let n = n as usize;
-    if n < locals.len() && n < flags.len() && !same_type(ty, &locals[n]) {
-        flags[n] = true;
+    match locals.get(n as usize) {
+        Some(t) => {
+            if !same_type(ty, t) {
+                raise(n as usize, flags)
+            }
+        }
+        None => {}
     }
 }
 
 #[cycle(exposed)]
-fn expose_in_expr(locals: &[CType], flags: &mut [bool], e: &TExpr)
+fn expose_in_expr(e: &TExpr, locals: &[CType], flags: &mut [bool])
     ensures { flags.new ≡ with_expr (typed_expr e.now) (plain_types locals.now) flags.old }
 {
     match &e.node {
         TNode::Num(_) | TNode::Null => {}
-        TNode::Read(p) => expose_in_place(locals, flags, p),
-        TNode::Lean(lean) => expose_in_lean(locals, flags, lean),
-        TNode::Convert(_, e) | TNode::ToVoid(e) => expose_in_expr(locals, flags, e),
+        TNode::Read(p) => expose_in_place(p, locals, flags),
+        TNode::Lean(lean) => expose_in_lean(lean, locals, flags),
+        TNode::Convert(_, e) | TNode::ToVoid(e) => expose_in_expr(e, locals, flags),
         TNode::Arith(_, _, a, b)
         | TNode::Compare(_, a, b)
         | TNode::PtrCompare(_, a, b)
@@ -45,121 +76,124 @@ fn expose_in_expr(locals: &[CType], flags: &mut [bool], e: &TExpr)
         | TNode::And(a, b)
         | TNode::Or(a, b)
         | TNode::Comma(a, b) => {
-            expose_in_expr(locals, flags, a);
-            expose_in_expr(locals, flags, b)
+            expose_in_expr(a, locals, flags);
+            expose_in_expr(b, locals, flags)
         }
         TNode::Cond(a, b, c) => {
-            expose_in_expr(locals, flags, a);
-            expose_in_expr(locals, flags, b);
-            expose_in_expr(locals, flags, c)
+            expose_in_expr(a, locals, flags);
+            expose_in_expr(b, locals, flags);
+            expose_in_expr(c, locals, flags)
         }
         TNode::Assign(place, value)
         | TNode::Update { place, value, .. }
         | TNode::PtrUpdate { place, value, .. } => {
-            expose_in_place(locals, flags, place);
-            expose_in_expr(locals, flags, value)
+            expose_in_place(place, locals, flags);
+            expose_in_expr(value, locals, flags)
         }
         TNode::CopyStruct(to, from) => {
-            expose_in_lean(locals, flags, &to.lean);
-            expose_in_lean(locals, flags, &from.lean)
+            expose_in_lean(&to.lean, locals, flags);
+            expose_in_lean(&from.lean, locals, flags)
         }
         TNode::Call(_, arguments) | TNode::Builtin(_, arguments) => {
-            expose_in_arguments(locals, flags, arguments)
+            expose_in_arguments(arguments, locals, flags)
         }
     }
 }
 
 /// Raises the flags of what a place that is read or assigned exposes.
 #[cycle(exposed)]
-fn expose_in_place(locals: &[CType], flags: &mut [bool], p: &TPlace)
+fn expose_in_place(p: &TPlace, locals: &[CType], flags: &mut [bool])
     ensures { flags.new ≡ with_place (typed_place p.now) (plain_types locals.now) flags.old }
 {
     match &p.lean {
-        TLean::Local(n) => expose_as(locals, flags, *n, &p.ty),
-        lean => expose_in_lean(locals, flags, lean),
+        TLean::Local(n) => expose_as(*n, &p.ty, locals, flags),
+        TLean::Static(_) => {}
+        TLean::Value(e) => expose_in_expr(e, locals, flags),
+        TLean::Slide { .. } => expose_in_lean(&p.lean, locals, flags),
+        TLean::Member(base, _) => expose_in_lean(base, locals, flags),
     }
 }
 
 #[cycle(exposed)]
-fn expose_in_lean(locals: &[CType], flags: &mut [bool], lean: &TLean)
+fn expose_in_lean(lean: &TLean, locals: &[CType], flags: &mut [bool])
     ensures { flags.new ≡ with_lean (typed_lean lean.now) (plain_types locals.now) flags.old }
 {
     match lean {
         TLean::Static(_) => {}
-        TLean::Local(n) => expose(locals, flags, *n),
-        TLean::Value(e) => expose_in_expr(locals, flags, e),
+        TLean::Local(n) => expose(*n, locals, flags),
+        TLean::Value(e) => expose_in_expr(e, locals, flags),
         TLean::Slide { base, by, .. } => {
-            expose_in_lean(locals, flags, base);
-            expose_in_expr(locals, flags, by)
+            expose_in_lean(base, locals, flags);
+            expose_in_expr(by, locals, flags)
         }
-        TLean::Member(base, _) => expose_in_lean(locals, flags, base),
+        TLean::Member(base, _) => expose_in_lean(base, locals, flags),
     }
 }
 
 #[cycle(exposed)]
-fn expose_in_arguments(locals: &[CType], flags: &mut [bool], arguments: &[TExpr])
-    ensures { flags.new ≡ fold (λ fs e. with_expr (typed_expr e) (plain_types locals.now) fs) flags.old arguments.now }
+fn expose_in_arguments(arguments: &[TExpr], locals: &[CType], flags: &mut [bool])
+    ensures { flags.new ≡ fold (λ fs x. with_expr (typed_expr x) (plain_types locals.now) fs) flags.old arguments.now }
 {
     for e in arguments {
-        expose_in_expr(locals, flags, e);
+        expose_in_expr(e, locals, flags);
     }
 }
 
-fn expose_in_option(locals: &[CType], flags: &mut [bool], e: &Option<TExpr>)
+fn expose_in_option(e: &Option<TExpr>, locals: &[CType], flags: &mut [bool])
     ensures { flags.new ≡ with_option (typed_option e.now) (plain_types locals.now) flags.old }
 {
     match e {
         None => {}
-        Some(e) => expose_in_expr(locals, flags, e),
+        Some(e) => expose_in_expr(e, locals, flags),
     }
 }
 
 #[cycle(initialisers)]
-fn expose_in_init(locals: &[CType], flags: &mut [bool], init: &TInit)
+fn expose_in_init(init: &TInit, locals: &[CType], flags: &mut [bool])
     ensures { flags.new ≡ with_init (typed_init init.now) (plain_types locals.now) flags.old }
 {
     match init {
-        TInit::Value(e) => expose_in_expr(locals, flags, e),
+        TInit::Value(e) => expose_in_expr(e, locals, flags),
         TInit::Chars(_) => {}
-        TInit::List(items) => expose_in_items(locals, flags, items),
-        TInit::Copy(p) => expose_in_lean(locals, flags, &p.lean),
+        TInit::List(items) => expose_in_items(items, locals, flags),
+        TInit::Copy(p) => expose_in_lean(&p.lean, locals, flags),
     }
 }
 
 #[cycle(initialisers)]
-fn expose_in_items(locals: &[CType], flags: &mut [bool], items: &[TInit])
-    ensures { flags.new ≡ fold (λ fs i. with_init (typed_init i) (plain_types locals.now) fs) flags.old items.now }
+fn expose_in_items(items: &[TInit], locals: &[CType], flags: &mut [bool])
+    ensures { flags.new ≡ fold (λ fs x. with_init (typed_init x) (plain_types locals.now) fs) flags.old items.now }
 {
     for item in items {
-        expose_in_init(locals, flags, item);
+        expose_in_init(item, locals, flags);
     }
 }
 
 /// Raises the flags of what the statements of a body expose.
 #[cycle(statements)]
-pub(crate) fn expose_in_stmt(locals: &[CType], flags: &mut [bool], stmt: &TStmt)
+fn expose_in_stmt(stmt: &TStmt, locals: &[CType], flags: &mut [bool])
     ensures { flags.new ≡ with_stmt (typed_stmt stmt.now) (plain_types locals.now) flags.old }
 {
     match stmt {
         TStmt::Empty | TStmt::Break | TStmt::Continue => {}
-        TStmt::Expr(e) => expose_in_expr(locals, flags, e),
-        TStmt::Block(stmts) => expose_in_stmts(locals, flags, stmts),
-        TStmt::Init { init, .. } => expose_in_init(locals, flags, init),
+        TStmt::Expr(e) => expose_in_expr(e, locals, flags),
+        TStmt::Block(stmts) => expose_in_stmts(stmts, locals, flags),
+        TStmt::Init { init, .. } => expose_in_init(init, locals, flags),
         TStmt::If(test, then, other) => {
-            expose_in_expr(locals, flags, test);
-            expose_in_stmt(locals, flags, then);
+            expose_in_expr(test, locals, flags);
+            expose_in_stmt(then, locals, flags);
             match other {
                 None => {}
-                Some(other) => expose_in_stmt(locals, flags, other),
+                Some(other) => expose_in_stmt(other, locals, flags),
             }
         }
         TStmt::While(test, body) => {
-            expose_in_expr(locals, flags, test);
-            expose_in_stmt(locals, flags, body)
+            expose_in_expr(test, locals, flags);
+            expose_in_stmt(body, locals, flags)
         }
         TStmt::Do(body, test) => {
-            expose_in_stmt(locals, flags, body);
-            expose_in_expr(locals, flags, test)
+            expose_in_stmt(body, locals, flags);
+            expose_in_expr(test, locals, flags)
         }
         TStmt::For {
             start,
@@ -167,20 +201,20 @@ pub(crate) fn expose_in_stmt(locals: &[CType], flags: &mut [bool], stmt: &TStmt)
             next,
             body,
         } => {
-            expose_in_stmts(locals, flags, start);
-            expose_in_option(locals, flags, test);
-            expose_in_option(locals, flags, next);
-            expose_in_stmt(locals, flags, body)
+            expose_in_stmts(start, locals, flags);
+            expose_in_option(test, locals, flags);
+            expose_in_option(next, locals, flags);
+            expose_in_stmt(body, locals, flags)
         }
-        TStmt::Return(e) => expose_in_option(locals, flags, e),
+        TStmt::Return(e) => expose_in_option(e, locals, flags),
     }
 }
 
 #[cycle(statements)]
-fn expose_in_stmts(locals: &[CType], flags: &mut [bool], stmts: &[TStmt])
-    ensures { flags.new ≡ fold (λ fs s. with_stmt (typed_stmt s) (plain_types locals.now) fs) flags.old stmts.now }
+fn expose_in_stmts(stmts: &[TStmt], locals: &[CType], flags: &mut [bool])
+    ensures { flags.new ≡ fold (λ fs x. with_stmt (typed_stmt x) (plain_types locals.now) fs) flags.old stmts.now }
 {
     for stmt in stmts {
-        expose_in_stmt(locals, flags, stmt);
+        expose_in_stmt(stmt, locals, flags);
     }
 }
