@@ -10,12 +10,12 @@
 
 pub use assigned::{arguments_assign, assigns, lean_assigns, place_assigns};
 pub use home::{Home, Homes};
-pub use homes::homes;
+pub use placing::homes;
 pub use words::{home_of, local_row, variable_word};
 
 mod adding;
 mod assigned;
 mod exposed;
 mod home;
-mod homes;
+mod placing;
 mod words;

@@ -16,7 +16,7 @@ returns c =
     let behind = drop (length new) c.in_ok-flags.flags.items in
     let size : length new ≡ c.in_ok-flags.flags.len = omega arith in
     let many : c.len.result ≡ length types = omega (arith, length-map c.args.f.now.locals.items plain_type) in
-    let none = c.deref_mut.ensures.value ∙ (c.in_ok-flags.ensures tt ∙ ap (λ n. replicate n false) many) in
+    let none = c.deref_mut.ensures.value ∙ (c.in_ok-flags.ensures ∙ ap (λ n. replicate n false) many) in
     let walked =
         c.expose_in_stmt.ensures
         ∙ (ap (λ ts. with_stmt body (plain_types ts) c.deref_mut.result.now) c.deref.ensures.value

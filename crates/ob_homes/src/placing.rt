@@ -3,7 +3,7 @@ ghost use Rattle.std.specs.Prelude.{◌≡◌, ◌+◌, ℕ, List, ◌∷◌, fa
 ghost use Rattle.ob_tree.specs.TypeView.{plain_type};
 ghost use Rattle.ob_typed.specs.TypeTests.{is_scalar};
 ghost use Rattle.ob_typed.specs.TypedView.{typed_function};
-ghost use Rattle.ob_lower.specs.Homes.{Home, first_word, home_first, homes, need_of, next_word, own_word, past_word, past_words, zero_word};
+ghost use Rattle.ob_lower.specs.Homes.{Home as PlainHome, first_word, home_first, homes, need_of, next_word, own_word, past_word, past_words, zero_word};
 ghost use Rattle.ob_homes.specs.HomesView.{AreHomesOf, plain_home, plain_homes};
 
 use crate::adding::add;
@@ -96,7 +96,7 @@ fn placed(
     exposed: bool,
     next: &mut Next,
 ) -> Result<Home, NoMemory>
-    ensures { IfOk result (λ h. (others : ℕ → ℕ → List Home) → home_first (need_of (is_scalar (plain_type t.now)) exposed) (own_word (typed_function f.now) v next.old.word) (next_word (typed_function f.now) v next.old.word) next.old.word next.old.row others ≡ plain_home h ∷ others next.new.word next.new.row) }
+    ensures { IfOk result (λ h. (others : ℕ → ℕ → List PlainHome) → home_first (need_of (is_scalar (plain_type t.now)) exposed) (own_word (typed_function f.now) v next.old.word) (next_word (typed_function f.now) v next.old.word) next.old.word next.old.row others ≡ plain_home h ∷ others next.new.word next.new.row) }
 {
     if !is_scalar(t) && !exposed {
         Ok(Home::Unseen(take_row(next)?))

@@ -3,7 +3,7 @@ use Rattle.ob_tree.specs.TypeView.{plain_types}
 use Rattle.ob_typed.specs.TypedView.{typed_function}
 use Rattle.ob_lower.specs.Homes.{homes, homes_from}
 use Rattle.ob_homes.specs.HomesView.{plain_homes}
-use Rattle.ob_homes.proofs.homes.home_list.Given as goal
+use Rattle.ob_homes.proofs.placing.home_list.Given as goal
 
 -- the homes so far and those to come are all
 abbrev pub invariant-loop-t : goal.invariant-loop-t
