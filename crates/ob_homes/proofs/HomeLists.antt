@@ -22,9 +22,10 @@ opened xs i x within is =
     let next : suc i ≡ i + 1 = omega arith in
     drop-cons xs i x within ∙ (ap (λ y. y ∷ drop (suc i) xs) (sym is) ∙ ap (λ k. x ∷ drop k xs) next)
 
-pub opened_types : (xs : List CType) (i : ℕ) (x : CType) → i < length xs → x ≡ get_or xs i x → drop i (plain_types xs) ≡ plain_type x ∷ drop (i + 1) (plain_types xs)
-opened_types xs i x within is =
-    drop-map plain_type i xs ∙ (ap (map plain_type) (opened xs i x within is) ∙ ap (λ ts. plain_type x ∷ ts) (sym (drop-map plain_type (i + 1) xs)))
+-- and so where each is what it is without its vectors
+pub opened_map : {A B : Type 0} (f : A → B) (xs : List A) (i : ℕ) (x : A) → i < length xs → x ≡ get_or xs i x → drop i (map f xs) ≡ f x ∷ drop (i + 1) (map f xs)
+opened_map f xs i x within is =
+    drop-map f i xs ∙ (ap (map f) (opened xs i x within is) ∙ ap (λ ys. f x ∷ ys) (sym (drop-map f (i + 1) xs)))
 
 type_at : (xs : List CType) (i : ℕ) (x : CType) → i < length xs → x ≡ get_or xs i x → slice_get (plain_types xs) i ≡ Some (plain_type x)
 type_at xs i x within is =

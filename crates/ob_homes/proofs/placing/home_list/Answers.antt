@@ -3,7 +3,7 @@ use Rattle.ob_tree.specs.TypeView.{plain_type, plain_types}
 use Rattle.ob_typed.specs.TypedView.{typed_function}
 use Rattle.ob_lower.specs.Homes.{homes, homes_from}
 use Rattle.ob_homes.specs.HomesView.{plain_homes}
-use Rattle.ob_homes.proofs.HomeLists.{flag_tells, more_homes, opened_types}
+use Rattle.ob_homes.proofs.HomeLists.{flag_tells, more_homes, opened_map}
 use Rattle.ob_homes.proofs.placing.home_list.Goals as goal
 
 pub loop-t-preserved : goal.loop-t-preserved
@@ -21,7 +21,7 @@ loop-t-preserved c =
     let whole = subst (λ k. homes f ≡ plain_homes c.loop-t.list.items ++ homes_from f k c.loop-t.next.word c.loop-t.next.row (drop k ts)) (sym same) c.loop-t.invariant.whole in
     let more =
         more_homes f v c.loop-t.next.word c.loop-t.next.row c.placed.new.next.word c.placed.new.next.row (plain_type x) (drop v ts) (drop (v + 1) ts)
-            c.flag.result c.loop-t.list.items c.in_ok-home.home (homes f) (opened_types xs v x within is) tells c.in_ok-home.ensures whole in
+            c.flag.result c.loop-t.list.items c.in_ok-home.home (homes f) (opened_map plain_type xs v x within is) tells c.in_ok-home.ensures whole in
     let pushed = subst (λ hs. homes f ≡ plain_homes hs ++ homes_from f (v + 1) c.placed.new.next.word c.placed.new.next.row (drop (v + 1) ts)) (sym c.in_ok-push_on.ensures.ok) more in
     record {
       ordinal = c.in_ok-v.ensures ∙ ap (λ k. k + 1) same;

@@ -1,0 +1,33 @@
+-- Rows that are put one behind the other.
+use Rattle.std.proofs.Common.{rules, ◌≡◌, ◌<◌, ℕ, ◌+◌, Bool, true, List, [], ◌∷◌, ◌++◌, length, map, refl, ap, sym, ◌∙◌, append_assoc}
+use Rattle.std.specs.List.{All, list_all}
+use Rattle.std.proofs.lemmas.List.Folds.{list_all-map}
+use Rattle.std.proofs.lemmas.List.Recursion.{and_at}
+use Rattle.ob_tree.specs.declared.types.CType.{CType}
+use Rattle.ob_tree.specs.Sizes.{IsComplete, is_complete}
+use Rattle.ob_tree.specs.Types.{PlainStructs, PlainType}
+use Rattle.ob_tree.specs.TypeView.{plain_type, plain_types}
+use Rattle.ob_code.specs.declared.image.LocalRow.{LocalRow}
+use Rattle.ob_lower.specs.Homes.{Home}
+use Rattle.ob_lower.specs.Functions.{row_first, rows_from}
+
+-- of all rows so many stand, and then one piece more
+pub taken : {A : Type 0} (whole rows all piece rest later : List A) → whole ≡ rows ++ all → all ≡ piece ++ rest → later ≡ rows ++ piece → whole ≡ later ++ rest
+taken whole rows all piece rest later is opens pushed =
+    is ∙ (ap (λ xs. rows ++ xs) opens ∙ (sym (append_assoc rows piece rest) ∙ ap (λ xs. xs ++ rest) (sym pushed)))
+
+-- one variable more
+pub more_rows : (s : PlainStructs) (i p q : ℕ) (t : PlainType) (h : Home) (ts types : List PlainType) (hs homes : List Home) (whole rows later : List LocalRow) →
+    ts ≡ t ∷ types → hs ≡ h ∷ homes → ((others : ℕ → List LocalRow) → rows ++ row_first h s i p t others ≡ later ++ others q) →
+    whole ≡ rows ++ rows_from s i p ts hs → whole ≡ later ++ rows_from s (i + 1) q types homes
+more_rows s i p q t h ts types hs homes whole rows later first second pushed is =
+    is
+    ∙ (ap (λ us. rows ++ rows_from s i p us hs) first
+    ∙ (ap (λ gs. rows ++ rows_from s i p (t ∷ types) gs) second
+    ∙ pushed (λ r. rows_from s (i + 1) r types homes)))
+
+-- types that pass are complete
+pub all_complete : (s : PlainStructs) (xs : List CType) → list_all (λ t. is_complete s (plain_type t)) xs ≡ true → All (IsComplete s) (plain_types xs)
+all_complete s xs pass k d within =
+    let at = and_at (list_all (is_complete s)) (is_complete s) refl (λ _ _. refl) (plain_types xs) k d within (list_all-map (is_complete s) plain_type xs ∙ pass) in
+    search rules
