@@ -17,6 +17,7 @@ pub use env::Env;
 pub use keeping::beside_part;
 pub use known::{Called, Known};
 pub use places::mark_of;
+pub use refusals::refused;
 
 mod around;
 mod bodies;
@@ -24,3 +25,4 @@ mod env;
 mod keeping;
 mod known;
 mod places;
+mod refusals;

@@ -12,12 +12,10 @@
 #![tactic(auto)]
 
 pub use lengths::{completed, foreseen};
-pub use refused::refuse;
 pub use walk::check_init;
 
 mod items;
 mod lengths;
 mod lists;
-mod refused;
 mod strings;
 mod walk;

@@ -19,4 +19,3 @@ mod calls;
 mod members;
 mod names;
 mod passing;
-mod refused;

@@ -15,8 +15,8 @@ ghost use Rattle.ob_conversions.specs.CheckedView.{checked, mark, target};
 ghost use Rattle.ob_conversions.specs.Gives.{Gives};
 ghost use Rattle.ob_uses.specs.MemberTypes.{placed_member, type_at};
 
-use crate::refused::refused;
 use ob_base::{NoMemory, Text, boxed_with, let_go};
+use ob_context::refused;
 use ob_conversions::leans::pointed_to;
 use ob_conversions::types::{copy_type, target};
 use ob_conversions::values::placed;

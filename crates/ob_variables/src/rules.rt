@@ -13,10 +13,9 @@ ghost use Rattle.ob_context.specs.Walks.{Walks};
 ghost use Rattle.ob_variables.specs.Pieces.{own_type};
 
 use ob_base::{NoMemory, Text, let_go};
-use ob_context::{Env, Known};
+use ob_context::{Env, Known, refused};
 use ob_conversions::types::copy_type;
 use ob_expressions::check_lengths;
-use ob_initialisers::refuse;
 use ob_scopes::{Meaning, Named, Storage, find_name};
 use ob_specifiers::{declarator_type, object_type};
 use ob_tree::{CType, ObjDecl, Structs, TypeFault, TypeKind};
@@ -93,7 +92,7 @@ fn variable_rule(
     ensures { Gives plain_type result (variable_rule (plain_structs known.now.structs) (env_of env.now (stand_of known.now)) initial name.now (plain_type t) at) }
 {
     if is_declared_here(env, known, name) {
-        return Err(refuse(TypeKind::Twice, at, t));
+        return refused(TypeKind::Twice, at, t);
     }
     match variable_type(&known.structs, initial, &t, at) {
         Ok(()) => Ok(t),
