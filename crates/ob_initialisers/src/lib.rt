@@ -15,6 +15,7 @@ pub use lengths::{completed, foreseen};
 pub use refused::refuse;
 pub use walk::check_init;
 
+mod applied;
 mod items;
 mod lengths;
 mod lists;

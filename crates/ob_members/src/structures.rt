@@ -4,7 +4,7 @@ ghost use Rattle.ob_members.specs.Indexes.{AreRight};
 use crate::building::{Index, boxed_index, index_at};
 use ob_base::{NoMemory, Text};
 use ob_layout::{NotComplete, complete, member};
-use ob_tree::{MemberRow, Structs};
+use ob_tree::{MemberRow, StructRow, Structs};
 use std::alloc::Global;
 
 /// The most members that are looked through one by one. A structure of more has an index.
@@ -22,7 +22,7 @@ pub struct Structures {
 impl Structures {
     ghost use Rattle.std.specs.Prelude.{◌≡◌, ◌++◌, [], ◌∷◌, Some, OnOk, OnErr, is_ok, length, option_map, slice_get};
     ghost use Rattle.ob_tree.specs.Types.{PlainType, unknown_struct, with_members};
-    ghost use Rattle.ob_tree.specs.TypeView.{plain_members};
+    ghost use Rattle.ob_tree.specs.TypeView.{plain_members, plain_struct};
     ghost use Rattle.ob_tree.specs.Sizes.{IsComplete, is_complete, member};
     ghost use Rattle.ob_layout.specs.Capped.{placed};
     ghost use Rattle.ob_members.specs.StructuresView.{plain_structures};
@@ -49,6 +49,13 @@ impl Structures {
         ensures { plain_structs result ≡ plain_structures self }
     {
         self.rows
+    }
+
+    /// The row of the structure numbered `number`; `None` exactly where none has that number.
+    pub fn row(&self, number: u32) -> Option<&StructRow>
+        ensures { option_map (λ row. plain_struct row.now) result ≡ slice_get (plain_structures self.now) number }
+    {
+        self.rows.row(number)
     }
 
     /// How many structures are declared.
