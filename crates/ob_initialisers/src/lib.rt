@@ -14,6 +14,7 @@
 pub use lengths::{completed, foreseen};
 pub use walk::check_init;
 
+mod applied;
 mod items;
 mod lengths;
 mod lists;

@@ -5,7 +5,7 @@ ghost use Rattle.ob_tree.specs.StructsView.{plain_structs};
 ghost use Rattle.ob_tree.specs.TypeView.{plain_type};
 ghost use Rattle.ob_typed.specs.Declarations.{named, variable_rule, variable_type};
 ghost use Rattle.ob_typed.specs.Scopes.{Meaning as PlainMeaning, find, is_at};
-ghost use Rattle.ob_typed.specs.Specifiers.{declarator_type};
+ghost use Rattle.ob_typed.specs.Specifiers.{declarator_type, object_type};
 ghost use Rattle.ob_scopes.specs.Names.{lean_of, plain_meaning};
 ghost use Rattle.ob_conversions.specs.Gives.{Gives};
 ghost use Rattle.ob_context.specs.KnownView.{env_of, known_of, stand_of};
@@ -66,6 +66,13 @@ fn is_declared_here(env: &Env, known: &Known, name: &Text) -> bool
     }
 }
 
+/// That an object may have this type, the structures being known; `at` is the place of its name.
+pub(crate) fn whole_type(known: &Known, t: &CType, at: u32) -> Result<(), TypeFault>
+    ensures { Gives (λ _. plain_type t.now) result (object_type (known_of known.now).structs (plain_type t.now) at) }
+{
+    object_type(known.structs.rows(), t, at)
+}
+
 /// That an object may have a type. An array without a length gets one from its initialiser.
 fn variable_type(s: &Structs, initial: bool, t: &CType, at: u32) -> Result<(), TypeFault>
     ensures { Gives (λ _. plain_type t.now) result (variable_type (plain_structs s.now) initial (plain_type t.now) at) }
@@ -89,12 +96,12 @@ fn variable_rule(
     t: CType,
     at: u32,
 ) -> Result<CType, TypeFault>
-    ensures { Gives plain_type result (variable_rule (plain_structs known.now.structs) (env_of env.now (stand_of known.now)) initial name.now (plain_type t) at) }
+    ensures { Gives plain_type result (variable_rule (known_of known.now).structs (env_of env.now (stand_of known.now)) initial name.now (plain_type t) at) }
 {
     if is_declared_here(env, known, name) {
         return refused(TypeKind::Twice, at, t);
     }
-    match variable_type(&known.structs, initial, &t, at) {
+    match variable_type(known.structs.rows(), initial, &t, at) {
         Ok(()) => Ok(t),
         Err(fault) => {
             let_go(t);
