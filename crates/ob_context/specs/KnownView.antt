@@ -1,10 +1,10 @@
 -- What the program knows, as the definition's (C99 6.2.1). Where a walk stands, which is the open blocks with the tags
 -- before each and the structures whose member lists are open, is apart from what it adds to.
 use Rattle.std.specs.Prelude.{ℕ, List, [], ◌∷◌, ◌++◌, length, map}
-use Rattle.ob_tree.specs.StructsView.{plain_structs}
 use Rattle.ob_typed.specs.TypedView.{typed_object}
 use Rattle.ob_typed.specs.Scopes.{TagDeclared, Known as PlainKnown, Env as PlainEnv, Called as PlainCalled}
 use Rattle.ob_scopes.specs.Names.{declared_in}
+use Rattle.ob_members.specs.StructuresView.{plain_structures}
 use Rattle.ob_context.specs.declared.env.Env.{Env}
 use Rattle.ob_context.specs.declared.known.Called.{Called}
 use Rattle.ob_context.specs.declared.known.Known.{Known}
@@ -14,7 +14,7 @@ called_as c = record { name = c.name; place = c.place }
 
 abbrev pub known_of : Known → PlainKnown
 known_of k = record {
-  structs = plain_structs k.structs;
+  structs = plain_structures k.structs;
   tags = k.tags.bindings;
   statics = map typed_object k.statics.items;
   calls = map called_as k.calls.items;

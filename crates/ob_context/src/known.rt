@@ -7,8 +7,8 @@ ghost use Rattle.ob_context.specs.KnownView.{known_of, left_stand, left_tags, st
 
 use crate::around::Around;
 use ob_base::{NoMemory, Text, push_on};
+use ob_members::Structures;
 use ob_scopes::Tags;
-use ob_tree::Structs;
 use ob_typed::TStatic;
 use std::alloc::Global;
 
@@ -23,7 +23,7 @@ pub struct Called {
 /// blocks, which the tags count, and the structures whose member lists are open.
 #[derive(Drop)]
 pub struct Known {
-    pub structs: Structs,
+    pub structs: Structures,
     pub tags: Tags,
     pub statics: Vec<TStatic>,
     pub calls: Vec<Called>,
@@ -37,7 +37,7 @@ impl Known {
         ensures stand { stand_of result ≡ record { outer = []; around = [] } }
     {
         Known {
-            structs: Structs::new(alloc),
+            structs: Structures::new(alloc),
             tags: Tags::new(alloc),
             statics: Vec::new(alloc),
             calls: Vec::new(alloc),

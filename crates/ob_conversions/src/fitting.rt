@@ -2,15 +2,17 @@
 ghost use Rattle.std.specs.Prelude.{ℕ, ◌≡◌, false, IfOk};
 ghost use Rattle.ob_tree.specs.Types.{PlainType};
 ghost use Rattle.ob_tree.specs.TypeView.{plain_type};
-ghost use Rattle.ob_typed.specs.Conversions.{as_type, fits, fits_type, loaded, value_type};
+ghost use Rattle.ob_typed.specs.Conversions.{as_type, fits, fits_type, loaded, value, value_type};
 ghost use Rattle.ob_typed.specs.TypedTree.{TypedExpr, TypedLean, TypedNode};
 ghost use Rattle.ob_typed.specs.TypedView.{typed_expr, typed_node};
 ghost use Rattle.ob_conversions.specs.CheckedView.{checked};
 
 use crate::checked::Checked;
+use crate::keeping::beside;
 use crate::nulls::is_null;
 use crate::numbers::as_int;
-use crate::types::{is_void, same_type};
+use crate::types::{copy_type, is_void, same_type};
+use crate::values::value;
 use ob_base::{NoMemory, let_go};
 use ob_tree::CType;
 use ob_typed::{TExpr, TNode};
@@ -112,4 +114,13 @@ pub fn as_type(alloc: Global, e: TExpr, t: CType) -> Result<TExpr, NoMemory>
         CType::Pointer(target) => Ok(as_pointer(e, target)),
         t => Ok(with_type(e, t)),
     }
+}
+
+/// The value of an expression that converts to a type, in a type of its own that is the same.
+pub fn value_as_type(alloc: Global, x: Checked, t: &CType) -> Result<TExpr, NoMemory>
+    ensures { IfOk result (λ r. typed_expr r ≡ as_type (value (checked x)) (plain_type t.now)) }
+{
+    let (x, t) = beside(value(alloc, x), t)?;
+    let (t, x) = beside(copy_type(alloc, t), x)?;
+    as_type(alloc, x, t)
 }

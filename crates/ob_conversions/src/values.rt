@@ -1,15 +1,16 @@
 //! What an expression's type and its value are (C99 6.3.2.1).
-ghost use Rattle.std.specs.Prelude.{◌≡◌, IfOk};
+ghost use Rattle.std.specs.Prelude.{ℕ, ◌≡◌, IfOk};
 ghost use Rattle.ob_tree.specs.Types.{PlainType};
 ghost use Rattle.ob_tree.specs.TypeView.{plain_type};
-ghost use Rattle.ob_typed.specs.Conversions.{loaded, type_of, value, Checked as PlainChecked};
-ghost use Rattle.ob_typed.specs.TypedTree.{TypedExpr, TypedNode};
+ghost use Rattle.ob_typed.specs.Conversions.{loaded, type_of, value, value_type, Checked as PlainChecked};
+ghost use Rattle.ob_typed.specs.TypeTests.{is_unusable};
+ghost use Rattle.ob_typed.specs.TypedTree.{TypedExpr, TypedLean, TypedNode};
 ghost use Rattle.ob_typed.specs.TypedView.{typed_expr, typed_lean, typed_place};
 ghost use Rattle.ob_conversions.specs.CheckedView.{checked};
 
 use crate::checked::Checked;
 use crate::keeping::beside;
-use crate::types::copy_type;
+use crate::types::{copy_type, is_unusable};
 use ob_base::{NoMemory, boxed, boxed_with};
 use ob_tree::CType;
 use ob_typed::{TExpr, TLean, TNode, TPlace};
@@ -89,4 +90,25 @@ pub fn values(alloc: Global, x: Checked, y: Checked) -> Result<(TExpr, TExpr), N
     let (x, y) = beside(value(alloc, x), y)?;
     let (y, x) = beside(value(alloc, y), x)?;
     Ok((x, y))
+}
+
+/// Whether the value of a place of type `t` may not be used. An array, whose value is a pointer, may.
+fn is_unusable_loaded(t: &CType) -> bool
+    ensures { (line : ℕ) (lean : TypedLean) → result ≡ is_unusable (value_type (loaded line (plain_type t.now) lean)) }
+{
+    match t {
+        CType::Array(_, _) => false,
+        t => is_unusable(t),
+    }
+}
+
+/// Whether the value of an expression may not be used.
+pub fn is_unusable_value(x: &Checked) -> bool
+    ensures { result ≡ is_unusable (value_type (value (checked x.now))) }
+{
+    match x {
+        Checked::Place(p) => is_unusable_loaded(&p.ty),
+        Checked::NullPointer { value, .. } => is_unusable(&value.ty),
+        Checked::Plain(value) => is_unusable(&value.ty),
+    }
 }

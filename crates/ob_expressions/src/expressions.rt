@@ -6,7 +6,6 @@ ghost use Rattle.ob_tree.specs.ExpressionView.{expr_tree};
 ghost use Rattle.ob_typed.specs.Expressions.{check};
 ghost use Rattle.ob_typed.specs.Strings.{joined_bytes, string};
 ghost use Rattle.ob_typed.specs.TypedTree.{TypedExpr, TypedNode};
-ghost use Rattle.ob_tree.specs.StructsView.{plain_structs};
 ghost use Rattle.ob_typed.specs.Conversions.{Checked as PlainChecked, value};
 ghost use Rattle.ob_typed.specs.PostfixRules.{index_rule};
 ghost use Rattle.ob_conversions.specs.CheckedView.{checked, mark};
@@ -14,6 +13,7 @@ ghost use Rattle.ob_conversions.specs.Gives.{Gives};
 ghost use Rattle.ob_context.specs.KnownView.{env_of, known_of, stand_of};
 ghost use Rattle.ob_context.specs.Walks.{Walks};
 
+use crate::applied::{assigned, indexed, joined_by};
 use crate::calls::check_call;
 use crate::operands::{
     check_arrow, check_member, check_size, check_size_of_type, check_step, check_unary,
@@ -26,7 +26,7 @@ use ob_conversions::numbers::number;
 use ob_conversions::types::pointer_to;
 use ob_conversions::values::values;
 use ob_conversions::{Checked, Mark};
-use ob_rules::{assignment_rule, binary_rule, cast_rule, comma_rule, cond_rule, index_rule};
+use ob_rules::{cast_rule, comma_rule, cond_rule};
 use ob_specifiers::{joined, string};
 use ob_tree::{CType, Expr, ExprNode, TypeFault};
 use ob_uses::name_rule;
@@ -67,7 +67,7 @@ pub fn check(alloc: Global, env: &Env, known: &mut Known, e: &Expr) -> Result<Ch
         ExprNode::Binary(sign, a, b) => {
             let x = check(alloc, env, known, a)?;
             let (y, x) = beside_part(check(alloc, env, known, b), x)?;
-            binary_rule(alloc, &known.structs, m, *sign, x, y)
+            joined_by(alloc, known, m, *sign, x, y)
         }
         ExprNode::Cond(c, a, b) => {
             let z = check(alloc, env, known, c)?;
@@ -78,7 +78,7 @@ pub fn check(alloc: Global, env: &Env, known: &mut Known, e: &Expr) -> Result<Ch
         ExprNode::Assign(sign, a, b) => {
             let x = check(alloc, env, known, a)?;
             let (y, x) = beside_part(check(alloc, env, known, b), x)?;
-            assignment_rule(alloc, &known.structs, m, *sign, mark_of(b).first, x, y)
+            assigned(alloc, known, m, *sign, mark_of(b).first, x, y)
         }
         ExprNode::Comma(a, b) => {
             let x = check(alloc, env, known, a)?;
@@ -96,10 +96,10 @@ fn element(
     x: Checked,
     y: Checked,
 ) -> Result<Checked, TypeFault>
-    ensures { Gives checked result (index_rule (plain_structs known.now.structs) (mark m) (value (checked x)) (value (checked y))) }
+    ensures { Gives checked result (index_rule (known_of known.now).structs (mark m) (value (checked x)) (value (checked y))) }
 {
     let (x, y) = values(alloc, x, y)?;
-    index_rule(alloc, &known.structs, m, x, y)
+    indexed(alloc, known, m, x, y)
 }
 
 /// `NULL`: a null pointer constant of type `void *` (C99 7.17).

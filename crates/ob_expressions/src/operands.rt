@@ -7,13 +7,14 @@ ghost use Rattle.ob_conversions.specs.CheckedView.{checked, mark};
 ghost use Rattle.ob_context.specs.KnownView.{env_of, known_of, stand_of};
 ghost use Rattle.ob_context.specs.Walks.{Walks};
 
+use crate::applied::{sized, stepped};
 use crate::expressions::check;
 use crate::specifiers::check_type;
 use ob_base::{Text, let_go};
 use ob_context::{Env, Known};
 use ob_conversions::values::{type_of, value};
 use ob_conversions::{Checked, Mark};
-use ob_rules::{size_rule, step_rule, unary_rule};
+use ob_rules::unary_rule;
 use ob_tree::{Expr, Sign, TypeFault, TypeName};
 use ob_uses::{arrow_rule, member_rule};
 use std::alloc::Global;
@@ -68,7 +69,7 @@ pub(crate) fn check_step(
     ensures stays { OnOk result (stand_of known.new ≡ stand_of known.old) }
 {
     let x = check(alloc, env, known, a)?;
-    step_rule(alloc, &known.structs, m, post, down, x)
+    stepped(alloc, known, m, post, down, x)
 }
 
 /// A unary operator (C99 6.5.3).
@@ -101,9 +102,9 @@ pub(crate) fn check_size(
     ensures stays { OnOk result (stand_of known.new ≡ stand_of known.old) }
 {
     let x = check(alloc, env, known, a)?;
-    let sized = size_rule(&known.structs, m, type_of(&x));
+    let size = sized(known, m, type_of(&x));
     let_go(x);
-    sized
+    size
 }
 
 /// `sizeof` before a type name (C99 6.5.3.4).
@@ -119,7 +120,7 @@ pub(crate) fn check_size_of_type(
     ensures stays { OnOk result (stand_of known.new ≡ stand_of known.old) }
 {
     let t = check_type(alloc, env, known, t)?;
-    let sized = size_rule(&known.structs, m, &t);
+    let size = sized(known, m, &t);
     let_go(t);
-    sized
+    size
 }

@@ -8,6 +8,7 @@ ghost use Rattle.ob_context.specs.KnownView.{env_of, known_of, stand_of};
 ghost use Rattle.ob_context.specs.Walks.{Walks};
 ghost use Rattle.ob_expressions.specs.Lists.{member_trees};
 
+use crate::applied::add_member;
 use crate::lengths::check_lengths;
 use ob_base::{Text, let_go};
 use ob_context::{Env, Known, beside_part};
@@ -74,7 +75,13 @@ fn check_struct(
     known.around.push(number)?;
     let list = check_members(alloc, env, known, lines)?;
     known.around.pop();
-    close(known, number, struct_place(tag, first), list.into_rows())?;
+    close(
+        alloc,
+        known,
+        number,
+        struct_place(tag, first),
+        list.into_rows(),
+    )?;
     Ok(CType::Struct(number))
 }
 
@@ -149,5 +156,5 @@ fn check_member(
     let lengths = check_lengths(alloc, env, known, &o.dims)?;
     let t = copy_type(alloc, t)?;
     let t = declarator_type(alloc, t, o.stars, &lengths)?;
-    list.add(alloc, &known.structs, t, &o.name, o.at)
+    add_member(alloc, known, list, t, &o.name, o.at)
 }

@@ -6,7 +6,7 @@ ghost use Rattle.ob_tree.specs.TypeView.{plain_type};
 ghost use Rattle.ob_typed.specs.Functions.{is_declared_here, parameter_rule, points_too_far};
 ghost use Rattle.ob_typed.specs.Specifiers.{parameter_type};
 ghost use Rattle.ob_conversions.specs.Gives.{Gives};
-ghost use Rattle.ob_context.specs.KnownView.{env_of, stand_of};
+ghost use Rattle.ob_context.specs.KnownView.{env_of, known_of, stand_of};
 ghost use Rattle.ob_functions.specs.FunctionView.{parameter};
 
 use crate::parameters::Parameter;
@@ -45,13 +45,13 @@ fn points_too_far(s: &Structs, t: &CType) -> bool
 
 /// That a parameter may have a type: a number or a pointer.
 fn parameter_rule(env: &Env, known: &Known, p: &Param, t: &CType) -> Result<(), TypeFault>
-    ensures { Gives (λ _. record { name = p.now.name; ty = plain_type t.now; line = p.now.line }) result (parameter_rule (plain_structs known.now.structs) (env_of env.now (stand_of known.now)) (param_tree p.now) (plain_type t.now)) }
+    ensures { Gives (λ _. record { name = p.now.name; ty = plain_type t.now; line = p.now.line }) result (parameter_rule (known_of known.now).structs (env_of env.now (stand_of known.now)) (param_tree p.now) (plain_type t.now)) }
 {
     if is_declared_here(env, known, &p.name) {
         Err(TypeFault::Fault(TypeKind::Twice, p.at))
     } else if !is_scalar(t) {
         Err(TypeFault::Fault(TypeKind::Incomplete, p.at))
-    } else if points_too_far(&known.structs, t) {
+    } else if points_too_far(known.structs.rows(), t) {
         Err(TypeFault::Fault(TypeKind::Constant, p.at))
     } else {
         Ok(())
@@ -77,7 +77,7 @@ pub(crate) fn parameter_of(
     base: CType,
     lengths: &[u64],
 ) -> Result<Parameter, TypeFault>
-    ensures { Gives parameter result (parameter_rule (plain_structs known.now.structs) (env_of env.now (stand_of known.now)) (param_tree p.now) (parameter_type (plain_type base) p.now.stars lengths.now)) }
+    ensures { Gives parameter result (parameter_rule (known_of known.now).structs (env_of env.now (stand_of known.now)) (param_tree p.now) (parameter_type (plain_type base) p.now.stars lengths.now)) }
 {
     let t = parameter_type(alloc, base, p.stars, lengths)?;
     let ((), t) = beside_part(parameter_rule(env, known, p, &t), t)?;

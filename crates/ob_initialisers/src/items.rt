@@ -12,8 +12,8 @@ ghost use Rattle.ob_conversions.specs.CheckedView.{checked, mark};
 ghost use Rattle.ob_conversions.specs.Gives.{Gives};
 ghost use Rattle.ob_conversions.specs.declared.checked.Checked.TheVariants.{Place};
 
-use crate::refused::refuse;
 use ob_consts::is_value_beside;
+use ob_context::refused;
 use ob_conversions::fitting::{as_type, fits};
 use ob_conversions::types::{copy_type, is_unusable, is_void};
 use ob_conversions::values::value;
@@ -35,7 +35,7 @@ fn constant_item(
     if !fixed || is_value_beside(s, statics, &e) {
         Ok(TInit::Value(e))
     } else {
-        Err(refuse(TypeKind::Constant, m.first, e))
+        refused(TypeKind::Constant, m.first, e)
     }
 }
 
@@ -54,13 +54,13 @@ fn scalar_item(
     let does_fit = fits(&x, t);
     let x = value(alloc, x)?;
     if is_unusable(&x.ty) {
-        Err(refuse(TypeKind::Operand, m.at, x))
+        refused(TypeKind::Operand, m.at, x)
     } else if does_fit {
         let (t, x) = beside(copy_type(alloc, t), x)?;
         let x = as_type(alloc, x, t)?;
         constant_item(s, statics, fixed, m, x)
     } else {
-        Err(refuse(TypeKind::Assign, m.first, x))
+        refused(TypeKind::Assign, m.first, x)
     }
 }
 
@@ -70,9 +70,9 @@ fn array_item(alloc: Global, m: Mark, x: Checked) -> Result<TInit, TypeFault>
 {
     let x = value(alloc, x)?;
     if is_void(&x.ty) {
-        Err(refuse(TypeKind::Operand, m.at, x))
+        refused(TypeKind::Operand, m.at, x)
     } else {
-        Err(refuse(TypeKind::Count, m.first, x))
+        refused(TypeKind::Count, m.first, x)
     }
 }
 
@@ -104,7 +104,7 @@ fn copied(alloc: Global, number: u32, m: Mark, p: TPlace) -> Result<TInit, TypeF
         CType::Struct(other) => if *other == number {
             Ok(TInit::Copy(p))
         } else {
-            Err(refuse(TypeKind::Assign, m.first, p))
+            refused(TypeKind::Assign, m.first, p)
         },
         _ => not_copied(alloc, m, Checked::Place(p)),
     }
@@ -116,9 +116,9 @@ fn not_copied(alloc: Global, m: Mark, x: Checked) -> Result<TInit, TypeFault>
 {
     let x = value(alloc, x)?;
     if is_unusable(&x.ty) {
-        Err(refuse(TypeKind::Operand, m.at, x))
+        refused(TypeKind::Operand, m.at, x)
     } else {
-        Err(refuse(TypeKind::Assign, m.first, x))
+        refused(TypeKind::Assign, m.first, x)
     }
 }
 
@@ -138,7 +138,7 @@ fn item_rule(
         CType::Int(_) | CType::Pointer(_) => scalar_item(alloc, s, statics, fixed, t, m, x),
         CType::Array(_, _) => array_item(alloc, m, x),
         CType::Struct(number) => struct_item(alloc, fixed, *number, m, x),
-        CType::Void => Err(refuse(TypeKind::Operand, m.at, x)),
+        CType::Void => refused(TypeKind::Operand, m.at, x),
     }
 }
 

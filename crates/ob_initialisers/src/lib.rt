@@ -12,12 +12,11 @@
 #![tactic(auto)]
 
 pub use lengths::{completed, foreseen};
-pub use refused::refuse;
 pub use walk::check_init;
 
+mod applied;
 mod items;
 mod lengths;
 mod lists;
-mod refused;
 mod strings;
 mod walk;

@@ -12,8 +12,8 @@ ghost use Rattle.ob_typed.specs.TypedView.{typed_init};
 ghost use Rattle.ob_conversions.specs.Gives.{Gives};
 ghost use Rattle.ob_initialisers.specs.Lists.{init_trees};
 
-use crate::refused::refuse;
 use ob_base::NoMemory;
+use ob_context::refused;
 use ob_conversions::types::copy_type;
 use ob_tree::{CType, Init, StructRow, Structs, TypeFault, TypeKind};
 use ob_typed::TInit;
@@ -137,8 +137,8 @@ fn list_for(
     match t {
         CType::Array(_, _) | CType::Struct(_) => match past_end(s, t, sources) {
             None => Ok(list_of(items)),
-            Some(place) => Err(refuse(TypeKind::Count, place, items)),
+            Some(place) => refused(TypeKind::Count, place, items),
         },
-        _ => Err(refuse(TypeKind::Count, first, items)),
+        _ => refused(TypeKind::Count, first, items),
     }
 }

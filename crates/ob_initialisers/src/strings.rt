@@ -7,8 +7,8 @@ ghost use Rattle.ob_typed.specs.TypedView.{typed_init};
 ghost use Rattle.ob_conversions.specs.CheckedView.{mark};
 ghost use Rattle.ob_conversions.specs.Gives.{Gives};
 
-use crate::refused::refuse;
 use ob_base::{NoMemory, Text};
+use ob_context::refused;
 use ob_conversions::Mark;
 use ob_conversions::types::is_char;
 use ob_specifiers::joined;
@@ -69,8 +69,8 @@ pub(crate) fn string_rule(t: Option<&CType>, m: Mark, bytes: Text) -> Result<TIn
         Some(CType::Array(_, count)) => if fits_length(*count, bytes.bytes().len()) {
             Ok(TInit::Chars(bytes))
         } else {
-            Err(refuse(TypeKind::Count, m.first, bytes))
+            refused(TypeKind::Count, m.first, bytes)
         },
-        _ => Err(refuse(TypeKind::Count, m.first, bytes)),
+        _ => refused(TypeKind::Count, m.first, bytes),
     }
 }

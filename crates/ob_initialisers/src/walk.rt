@@ -9,8 +9,7 @@ ghost use Rattle.ob_context.specs.KnownView.{env_of, known_of, stand_of};
 ghost use Rattle.ob_context.specs.Walks.{Walks};
 ghost use Rattle.ob_initialisers.specs.Lists.{init_trees};
 
-use crate::items::part_rule;
-use crate::lists::{list_rule, part_type};
+use crate::applied::{known_item, known_list, known_part};
 use crate::strings::{string_for, string_rule};
 use ob_base::push_on;
 use ob_context::{Env, Known, mark_of};
@@ -54,15 +53,7 @@ fn check_item(
         Some(bytes) => string_rule(t, mark_of(e), bytes),
         None => {
             let x = check(alloc, env, known, e)?;
-            part_rule(
-                alloc,
-                &known.structs,
-                &known.statics,
-                fixed,
-                t,
-                mark_of(e),
-                x,
-            )
+            known_item(alloc, known, fixed, t, mark_of(e), x)
         }
     }
 }
@@ -82,7 +73,7 @@ fn check_list(
     ensures stays { OnOk result (stand_of known.new ≡ stand_of known.old) }
 {
     let items = check_items(alloc, env, known, fixed, t, sources)?;
-    list_rule(&known.structs, t, first, sources, items)
+    known_list(known, t, first, sources, items)
 }
 
 /// The items of a list.
@@ -100,7 +91,7 @@ fn check_items(
 {
     let mut items = Vec::new(alloc);
     for source in sources {
-        let part = part_type(alloc, &known.structs, t, items.len())?;
+        let part = known_part(alloc, known, t, items.len())?;
         let item = check_init(alloc, env, known, fixed, part.as_ref(), source)?;
         push_on(&mut items, item)?;
     }

@@ -10,11 +10,11 @@ use Rattle.ob_layout.proofs.Layouts.{fits_known, fits_within}
 use Rattle.ob_layout.specs.Capped.{capped_place, capped_pair, placed, cap}
 
 -- members that follow make a structure no smaller
-then_some : (f : Layout → Option Layout) (o : Option Layout) (r : Layout) → option_and_then f o ≡ Some r → f (laid o) ≡ Some r
+pub then_some : (f : Layout → Option Layout) (o : Option Layout) (r : Layout) → option_and_then f o ≡ Some r → f (laid o) ≡ Some r
 then_some f None r is = absurd (none-some r is)
 then_some f (Some x) r is = is
 
-grows : (known : ℕ → Option Layout) (l : Layout) (ms : List PlainMember) (r : Layout) → members_layout known l ms ≡ Some r → l.size ≤ r.size
+pub grows : (known : ℕ → Option Layout) (l : Layout) (ms : List PlainMember) (r : Layout) → members_layout known l ms ≡ Some r → l.size ≤ r.size
 grows known l [] r is = let h : round_up l.size l.align ≡ r.size = ap (λ o. (laid o).size) is in omega arith
 grows known l (m ∷ ms) r is =
     let h = then_some (λ p. members_layout known (appended l p) ms) (type_layout known m.ty) r is in
@@ -53,7 +53,7 @@ exact_pair (Some m) (Some q) n h few is =
     ap (λ k. Some (k, q.1)) offset ∙ ap (λ k. Some (m.offset, k)) second
 
 -- in a complete structure each member has its layout at the full depth
-complete_members : (s : PlainStructs) (n : ℕ) (r : PlainStruct) (l : Layout) → slice_get s n ≡ Some r → layout s (PlainType.Struct n) ≡ Some l → members_layout (struct_layout (length s) s) no_layout r.members ≡ Some l
+pub complete_members : (s : PlainStructs) (n : ℕ) (r : PlainStruct) (l : Layout) → slice_get s n ≡ Some r → layout s (PlainType.Struct n) ≡ Some l → members_layout (struct_layout (length s) s) no_layout r.members ≡ Some l
 complete_members s n r l at is =
     let deeper : row_layout (struct_layout (length s) s) (slice_get s n) ≡ Some l = depth_below (length s) s n l is in
     where_some r.complete (members_layout (struct_layout (length s) s) no_layout r.members) l (ap (row_layout (struct_layout (length s) s)) (sym at) ∙ deeper)

@@ -18,7 +18,7 @@ same_chosen : (b : Bool) (x y i : ℕ) (ty : PlainType) (o p : Option MemberPlac
 same_chosen true x y i ty o p h k = ap (λ n. Some (n, i)) h
 same_chosen false x y i ty o p h k = k
 
-min_offset : (l p : Layout) → min (next_offset (capped l) p) cap ≡ min (next_offset l p) cap
+pub min_offset : (l p : Layout) → min (next_offset (capped l) p) cap ≡ min (next_offset l p) cap
 min_offset l p = let h = min_round_up l.size p.align 0 in omega arith
 
 member_capped : (known : ℕ → Option Layout) (l : Layout) (i : ℕ) (ms : List PlainMember) (name : List ℕ) → option_map capped_place (member_from known (capped l) i ms name) ≡ option_map capped_place (member_from known l i ms name)

@@ -3,3 +3,4 @@ pub mod Layouts
 pub mod Found
 pub mod Depths
 pub mod RoundUps
+pub mod CappedOffsets

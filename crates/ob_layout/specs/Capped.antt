@@ -6,6 +6,10 @@ use Rattle.ob_layout.specs.declared.counted.Counted.{Counted}
 abbrev pub cap : ℕ
 cap = 4194305
 
+-- a number up to the cap
+abbrev pub cut : ℕ → ℕ
+cut n = min n cap
+
 abbrev pub capped : Layout → Layout
 capped l = record { size = min l.size cap; align = l.align; scalars = min l.scalars cap }
 

@@ -1,3 +1,4 @@
 pub mod Capped
+pub mod Offsets
 pub mod Spread
 pub mod Samples

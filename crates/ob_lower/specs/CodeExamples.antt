@@ -1,7 +1,7 @@
 -- The code of small statements, written out by hand. In a function without parameters the zero word is 2 and the words of its plain
 -- variables come after it: here an `int` i has word 3, an `int` n word 4 and an `int` s word 5, and words are free from 6 on. A jump
 -- says how far it goes from itself on.
-use Rattle.std.specs.Prelude.{◌≡◌, true, false, pos, negsuc, List, [], ◌∷◌, Some}
+use Rattle.std.specs.Prelude.{◌≡◌, ℕ, true, false, pos, negsuc, List, [], ◌∷◌, Some}
 use Rattle.ob_words.specs.declared.types.BinOp.TheVariants as op
 use Rattle.ob_words.specs.declared.types.IntType.TheVariants as type
 use Rattle.ob_words.specs.declared.types.Relation.TheVariants as relation
@@ -11,12 +11,14 @@ use Rattle.ob_tree.specs.Types.PlainType.{Array, Struct}
 use Rattle.ob_typed.specs.TypedTree.{TypedExpr, TypedStmt}
 use Rattle.ob_typed.specs.TypedTree.TypedExpr.{Typed}
 use Rattle.ob_typed.specs.TypedTree.{TypedNode as node, TypedLean as at, TypedStmt as stmt, TypedInit as init}
+use Rattle.ob_code.specs.declared.image.FunctionRow.{FunctionRow}
+use Rattle.ob_code.specs.Frames.{frame_length}
 use Rattle.ob_code.specs.declared.instructions.Instr.{Instr}
 use Rattle.ob_code.specs.declared.instructions.Instr.TheVariants.{Tick, Set, Move, Binary, Compare, Jump, JumpZero, JumpNonzero, Call, Return, Static, Local, Wipe, Load, Store, Slide, SlideBy, PutChar}
 use Rattle.ob_meaning.specs.ControlExamples.{call_of, int_item, items_of, two_ints}
 use Rattle.ob_meaning.specs.Examples.{return_zero}
 use Rattle.ob_meaning.specs.ExampleTrees.{int, int_type, main_of, number, place, plus, put, read, set, statements_of}
-use Rattle.ob_lower.specs.Functions.{function_code}
+use Rattle.ob_lower.specs.Functions.{function_code, function_row}
 use Rattle.ob_lower.specs.Statements.{stmt_code}
 use Rattle.ob_lower.specs.Homes.{context_of}
 
@@ -139,3 +141,35 @@ CodeOfSum =
     ≡ Tick ∷ Set 3 (pos 0) ∷ Jump (pos 11) ∷ Tick ∷ Tick ∷ Static 6 (pos 1) ∷ Set 7 (pos 63) ∷ Binary type.Int op.And 7 3 7 ∷ Slide 7 2 7 (pos 4)
     ∷ Load (Num type.Int) 1 6 6 7 ∷ Binary type.Int op.Add 5 5 6 ∷ Set 6 (pos 1) ∷ Binary type.Int op.Add 3 3 6
     ∷ Compare type.Int relation.Lt 6 3 4 ∷ JumpNonzero 6 (negsuc 10) ∷ []
+
+-- struct {int a; int b;} t = t; and void *a[1] = {a}; each alone: what only its own initialiser names is evaluated and not stored
+abbrev pub void_pointer : PlainType
+void_pointer = PlainType.Pointer PlainType.Void
+
+abbrev pub one_pointer : PlainType
+one_pointer = Array void_pointer 1
+
+abbrev pub copied_from_itself : TypedStmt
+copied_from_itself = stmt.Init 0 (init.Copy (place (Struct 0) (at.Local 0)))
+
+abbrev pub holding_itself : TypedStmt
+holding_itself = stmt.Init 0 (init.Items (items_of (init.Value (Typed 1 void_pointer (node.Lean (at.Local 0))) ∷ [])))
+
+abbrev pub CodeOfOwnCopy : Type 0
+CodeOfOwnCopy = code_in_main two_ints (Struct 0 ∷ []) copied_from_itself ≡ []
+
+abbrev pub CodeOfOwnPointer : Type 0
+CodeOfOwnPointer = code_in_main [] (one_pointer ∷ []) holding_itself ≡ Local 3 (pos 0) ∷ []
+
+-- so the frame of a function with no more expressions than that one name fits in what its call takes of the stack
+abbrev pub row_of_main : PlainStructs → List PlainType → TypedStmt → FunctionRow
+row_of_main structs locals s =
+    function_row structs (main_of locals 1 (s ∷ []) ∷ []) (main_of locals 1 (s ∷ [])) 0
+    (function_code structs (main_of locals 1 (s ∷ []) ∷ []) (main_of locals 1 (s ∷ [])))
+
+abbrev pub FrameIs : ℕ → FunctionRow → Type 0
+FrameIs n row = (frame_length row ≡ n) × (row.allowance ≡ n)
+
+abbrev pub FramesOfOwnNames : Type 0
+FramesOfOwnNames =
+    FrameIs 48 (row_of_main two_ints (Struct 0 ∷ []) copied_from_itself) × FrameIs 48 (row_of_main [] (one_pointer ∷ []) holding_itself)

@@ -1,7 +1,7 @@
 -- Where the variables of a function are. A variable is plain where it is a number or a pointer whose address is never taken:
 -- whatever names it reads or assigns it, as a value of its own type. A plain variable has a word of the frame for the whole call.
 -- Any other variable has bytes of the frame, and a row among the function's locals.
-use Rattle.std.specs.Prelude.{ℕ, Bool, false, not, ◌&&◌, ◌||◌, ◌==◌, Option, Some, None}
+use Rattle.std.specs.Prelude.{ℕ, Bool, true, false, not, ◌&&◌, ◌||◌, ◌==◌, Option, Some, None}
 use Rattle.ob_tree.specs.Types.{PlainType}
 use Rattle.ob_typed.specs.TypedTree.{TypedExpr, TypedExprs, TypedInit, TypedInits, TypedLean, TypedNode, TypedPlace, TypedStmt, TypedStmts}
 use Rattle.ob_typed.specs.TypedTree.TypedExpr.{Typed}
@@ -68,12 +68,46 @@ abbrev mutual
   exposes_in_items v t inits.NoItems = false
   exposes_in_items v t (inits.Item i is) = exposes_in_init v t i || exposes_in_items v t is
 
+-- An array or a structure may be named by its own initialiser: as the whole that it is copied from, or as a pointer among its items.
+-- By that alone it isn't exposed, since its bytes are seen only through another name.
+abbrev pub exposes_further : ℕ → PlainType → TypedLean → Bool
+exposes_further v t (at.Local n) = false
+exposes_further v t (at.Static n) = false
+exposes_further v t (at.Value e) = exposes v t e
+exposes_further v t (at.Slide lean scale minus number_first e) = exposes_in_lean v t lean || exposes v t e
+exposes_further v t (at.Member lean offset) = exposes_in_lean v t lean
+
+abbrev pub exposes_as_item : ℕ → PlainType → TypedNode → Bool
+exposes_as_item v t (node.Lean lean) = exposes_further v t lean
+exposes_as_item v t what = exposes_in_node v t what
+
+abbrev mutual
+  pub exposes_in_own_item : ℕ → PlainType → TypedInit → Bool
+  exposes_in_own_item v t (init.Value (Typed line ty what)) = exposes_as_item v t what
+  exposes_in_own_item v t (init.Chars bytes) = false
+  exposes_in_own_item v t (init.Items is) = exposes_in_own_items v t is
+  exposes_in_own_item v t (init.Copy (Place line ty from)) = exposes_in_lean v t from
+
+  pub exposes_in_own_items : ℕ → PlainType → TypedInits → Bool
+  exposes_in_own_items v t inits.NoItems = false
+  exposes_in_own_items v t (inits.Item i is) = exposes_in_own_item v t i || exposes_in_own_items v t is
+
+abbrev pub exposes_in_own : ℕ → PlainType → TypedInit → Bool
+exposes_in_own v t (init.Value e) = exposes v t e
+exposes_in_own v t (init.Chars bytes) = false
+exposes_in_own v t (init.Items is) = exposes_in_own_items v t is
+exposes_in_own v t (init.Copy (Place line ty from)) = exposes_further v t from
+
+abbrev pub exposes_in_start : Bool → ℕ → PlainType → TypedInit → Bool
+exposes_in_start true v t i = exposes_in_own v t i
+exposes_in_start false v t i = exposes_in_init v t i
+
 abbrev mutual
   pub exposes_in_stmt : ℕ → PlainType → TypedStmt → Bool
   exposes_in_stmt v t stmt.Empty = false
   exposes_in_stmt v t (stmt.Expr e) = exposes v t e
   exposes_in_stmt v t (stmt.Block ss) = exposes_in_stmts v t ss
-  exposes_in_stmt v t (stmt.Init n i) = exposes_in_init v t i
+  exposes_in_stmt v t (stmt.Init n i) = exposes_in_start (n == v) v t i
   exposes_in_stmt v t (stmt.If e s) = exposes v t e || exposes_in_stmt v t s
   exposes_in_stmt v t (stmt.IfElse e s other) = exposes v t e || (exposes_in_stmt v t s || exposes_in_stmt v t other)
   exposes_in_stmt v t (stmt.While e s) = exposes v t e || exposes_in_stmt v t s

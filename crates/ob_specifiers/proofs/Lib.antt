@@ -1,4 +1,3 @@
-pub mod Ends
 pub mod Declared
 pub mod Pieces
 pub mod Named

@@ -3,7 +3,8 @@
 //!
 //! Each call answers exactly as the definition of its name in `ob_typed` does, or has too little memory. `MemberList` is
 //! the members of a structure so far, where a name is found without a walk over the others. Stands on
-//! `ob_base`, `ob_words`, `ob_tree`, `ob_typed`, `ob_layout`, `ob_consts`, `ob_scopes`, `ob_conversions` and `ob_context`.
+//! `ob_base`, `ob_words`, `ob_tree`, `ob_typed`, `ob_layout`, `ob_consts`, `ob_scopes`, `ob_members`,
+//! `ob_conversions` and `ob_context`.
 //!
 //! To be believed are `Specifiers`, `Strings` and `Expressions` of `ob_typed`.
 #![tactic(auto)]

@@ -10,6 +10,7 @@ ghost use Rattle.ob_context.specs.KnownView.{known_of, stand_of};
 ghost use Rattle.ob_context.specs.Walks.{Walks};
 
 use ob_base::{NoMemory, Text};
+use ob_consts::trimmed;
 use ob_context::Known;
 use ob_conversions::types::array_of;
 use ob_conversions::values::placed;
@@ -28,19 +29,6 @@ pub fn joined(alloc: Global, strings: &[Text]) -> Result<Text, NoMemory>
         joined.add(string.bytes())?;
     }
     Ok(joined)
-}
-
-/// The bytes without the zeros at their end.
-fn trimmed(bytes: Text) -> Text
-    ensures { result ≡ trimmed bytes }
-{
-    let mut bytes = bytes.into_vec();
-    let mut len = bytes.len();
-    while len > 0 && bytes[len - 1] == 0 {
-        len -= 1;
-    }
-    bytes.truncate(len);
-    Text::from_vec(bytes)
 }
 
 /// Whether an object can have these bytes and a zero.

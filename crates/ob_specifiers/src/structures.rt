@@ -1,10 +1,10 @@
 //! Structure specifiers and tags (C99 6.7.2.1, 6.7.2.3).
 ghost use Rattle.std.specs.Prelude.{◌≡◌, IfOk, IsTrue, OnOk, Some, is_some, length, option_map, slice_get};
-ghost use Rattle.ob_tree.specs.StructsView.{plain_structs};
 ghost use Rattle.ob_tree.specs.Types.{PlainType, is_complete_row, unknown_struct};
 ghost use Rattle.ob_tree.specs.TypeView.{plain_members, plain_type};
 ghost use Rattle.ob_typed.specs.Expressions.{with_structs};
 ghost use Rattle.ob_typed.specs.Specifiers.{closed, mentioned, new_struct, new_tag, opened, struct_place};
+ghost use Rattle.ob_members.specs.StructuresView.{plain_structures};
 ghost use Rattle.ob_conversions.specs.Gives.{Gives};
 ghost use Rattle.ob_context.specs.KnownView.{known_of, stand_of};
 ghost use Rattle.ob_context.specs.Walks.{Walks};
@@ -12,8 +12,8 @@ ghost use Rattle.ob_specifiers.specs.Filled.{filled};
 
 use ob_base::{NoMemory, Text, let_go};
 use ob_context::Known;
-use ob_layout::complete;
-use ob_tree::{CType, MemberRow, Structs, TypeFault, TypeKind};
+use ob_members::Structures;
+use ob_tree::{CType, MemberRow, TypeFault, TypeKind};
 use std::alloc::Global;
 
 /// One more structure without its members yet, and its number. More than a `u32` counts find too little memory.
@@ -89,6 +89,7 @@ pub fn struct_place(tag: Option<&Text>, first: u32) -> u32
 /// Gives a structure its members: a fault where it has some or its own list stands around this one, or where it is too
 /// great with them.
 pub fn close(
+    alloc: Global,
     known: &mut Known,
     number: u32,
     at: u32,
@@ -101,12 +102,18 @@ pub fn close(
         let_go(members);
         return Err(TypeFault::Fault(TypeKind::Twice, at));
     }
-    fill(&mut known.structs, number, at, members)
+    fill(alloc, &mut known.structs, number, at, members)
 }
 
 /// Gives a structure that has none its members.
-fn fill(s: &mut Structs, number: u32, at: u32, members: Vec<MemberRow>) -> Result<(), TypeFault>
-    ensures { Gives (λ _. plain_structs s.new) result (filled (plain_structs s.old) number at (plain_members members.items)) }
+fn fill(
+    alloc: Global,
+    s: &mut Structures,
+    number: u32,
+    at: u32,
+    members: Vec<MemberRow>,
+) -> Result<(), TypeFault>
+    ensures { Gives (λ _. plain_structures s.new) result (filled (plain_structures s.old) number at (plain_members members.items)) }
 {
     // Each number that is handed out has a row, and a row that isn't complete has no members: neither of these two
     // faults comes.
@@ -118,21 +125,21 @@ fn fill(s: &mut Structs, number: u32, at: u32, members: Vec<MemberRow>) -> Resul
         let_go(members);
         return Err(TypeFault::NoMemory);
     }
-    match complete(s, number, members) {
+    match s.complete(alloc, number, members) {
         Ok(()) => Ok(()),
         Err(_) => Err(TypeFault::Fault(TypeKind::Constant, at)),
     }
 }
 
-fn has_row(s: &Structs, number: u32) -> bool
-    ensures { result ≡ is_some (slice_get (plain_structs s.now) number) }
+fn has_row(s: &Structures, number: u32) -> bool
+    ensures { result ≡ is_some (slice_get (plain_structures s.now) number) }
 {
     s.row(number).is_some()
 }
 
 /// Whether a structure has its members.
-fn is_complete_row(s: &Structs, number: u32) -> bool
-    ensures { result ≡ is_complete_row (slice_get (plain_structs s.now) number) }
+fn is_complete_row(s: &Structures, number: u32) -> bool
+    ensures { result ≡ is_complete_row (slice_get (plain_structures s.now) number) }
 {
     match s.row(number) {
         Some(row) => row.complete,
@@ -141,8 +148,8 @@ fn is_complete_row(s: &Structs, number: u32) -> bool
 }
 
 /// Whether a structure is declared and has no members yet.
-fn is_unknown(s: &Structs, number: u32) -> bool
-    ensures { IsTrue result → slice_get (plain_structs s.now) number ≡ Some unknown_struct }
+fn is_unknown(s: &Structures, number: u32) -> bool
+    ensures { IsTrue result → slice_get (plain_structures s.now) number ≡ Some unknown_struct }
 {
     match s.row(number) {
         Some(row) => !row.complete && row.members.is_empty(),

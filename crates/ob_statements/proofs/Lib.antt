@@ -1,4 +1,3 @@
-pub mod Values
 pub mod StmtRows
 pub mod BlockRows
 pub mod Turns

@@ -11,12 +11,11 @@ ghost use Rattle.ob_context.specs.Walks.{Walks};
 ghost use Rattle.ob_variables.specs.BodyView.{body_of, stmts_of};
 
 use crate::nodes::start_list;
-use ob_context::{Env, mark_of};
+use ob_context::{Env, mark_of, refused};
 use ob_conversions::Mark;
 use ob_conversions::types::{is_scalar, is_struct};
 use ob_conversions::values::value;
 use ob_expressions::check;
-use ob_initialisers::refuse;
 use ob_tree::{Expr, ForStart, TypeFault, TypeKind};
 use ob_typed::{TExpr, TStmt};
 use ob_variables::{Body, check_declaration};
@@ -27,7 +26,7 @@ fn dropped_rule(m: Mark, x: TExpr) -> Result<TExpr, TypeFault>
     ensures { Gives typed_expr result (dropped_rule (mark m) (typed_expr x)) }
 {
     if is_struct(&x.ty) {
-        Err(refuse(TypeKind::Operand, m.at, x))
+        refused(TypeKind::Operand, m.at, x)
     } else {
         Ok(x)
     }
@@ -40,7 +39,7 @@ fn control_rule(m: Mark, x: TExpr) -> Result<TExpr, TypeFault>
     if is_scalar(&x.ty) {
         Ok(x)
     } else {
-        Err(refuse(TypeKind::Operand, m.at, x))
+        refused(TypeKind::Operand, m.at, x)
     }
 }
 

@@ -1,27 +1,22 @@
 //! Jumps (C99 6.8.6).
-ghost use Rattle.std.specs.Prelude.{◌≡◌, IfOk, OnOk};
+ghost use Rattle.std.specs.Prelude.{◌≡◌, OnOk};
 ghost use Rattle.ob_tree.specs.ProgramView.{option_tree};
 ghost use Rattle.ob_tree.specs.TypeView.{plain_type};
-ghost use Rattle.ob_typed.specs.Conversions.{as_type, value, value_type};
 ghost use Rattle.ob_typed.specs.Statements.{check_return, jump, return_nothing, return_rule, returned};
-ghost use Rattle.ob_typed.specs.TypeTests.{is_unusable};
-ghost use Rattle.ob_typed.specs.TypedView.{typed_expr, typed_stmt};
+ghost use Rattle.ob_typed.specs.TypedView.{typed_stmt};
 ghost use Rattle.ob_conversions.specs.CheckedView.{checked, mark};
 ghost use Rattle.ob_conversions.specs.Gives.{Gives};
 ghost use Rattle.ob_context.specs.KnownView.{env_of, stand_of};
 ghost use Rattle.ob_context.specs.Walks.{Walks};
 ghost use Rattle.ob_variables.specs.BodyView.{body_of};
 
-use ob_base::NoMemory;
-use ob_context::{Env, mark_of};
-use ob_conversions::fitting::{as_type, fits};
-use ob_conversions::types::{copy_type, is_unusable};
-use ob_conversions::values::{type_of, value};
-use ob_conversions::{Checked, Mark, beside};
+use ob_context::{Env, mark_of, refused};
+use ob_conversions::fitting::{fits, value_as_type};
+use ob_conversions::values::is_unusable_value;
+use ob_conversions::{Checked, Mark};
 use ob_expressions::check;
-use ob_initialisers::refuse;
 use ob_tree::{CType, Expr, TypeFault, TypeKind};
-use ob_typed::{TExpr, TStmt};
+use ob_typed::TStmt;
 use ob_variables::Body;
 use std::alloc::Global;
 
@@ -32,7 +27,7 @@ pub(crate) fn jump(in_loop: bool, first: u32, s: TStmt) -> Result<TStmt, TypeFau
     if in_loop {
         Ok(s)
     } else {
-        Err(refuse(TypeKind::Jump, first, s))
+        refused(TypeKind::Jump, first, s)
     }
 }
 
@@ -46,33 +41,16 @@ fn return_nothing(t: &CType, first: u32) -> Result<TStmt, TypeFault>
     }
 }
 
-/// Whether the value of an expression may not be used. An array, whose value is a pointer, may.
-#[tactic(auto, using(crate::proofs::Values::value_unusable))]
-fn is_unusable_value(x: &Checked) -> bool
-    ensures { result ≡ is_unusable (value_type (value (checked x.now))) }
-{
-    is_unusable(type_of(x))
-}
-
-/// A value that converts to a type, in a type of its own that is the same.
-fn in_type(alloc: Global, x: Checked, t: &CType) -> Result<TExpr, NoMemory>
-    ensures { IfOk result (λ r. typed_expr r ≡ as_type (value (checked x)) (plain_type t.now)) }
-{
-    let (x, t) = beside(value(alloc, x), t)?;
-    let (t, x) = beside(copy_type(alloc, t), x)?;
-    as_type(alloc, x, t)
-}
-
 /// `return` of a value that may be used, in a function of type `t`. It converts to this type, which isn't `void`.
 fn returned(alloc: Global, t: &CType, first: u32, m: Mark, x: Checked) -> Result<TStmt, TypeFault>
     ensures { Gives typed_stmt result (returned (plain_type t.now) first (mark m) (checked x)) }
 {
     match t {
-        CType::Void => Err(refuse(TypeKind::Jump, first, x)),
+        CType::Void => refused(TypeKind::Jump, first, x),
         t => if fits(&x, t) {
-            Ok(TStmt::Return(Some(in_type(alloc, x, t)?)))
+            Ok(TStmt::Return(Some(value_as_type(alloc, x, t)?)))
         } else {
-            Err(refuse(TypeKind::Assign, m.first, x))
+            refused(TypeKind::Assign, m.first, x)
         },
     }
 }
@@ -88,7 +66,7 @@ fn return_rule(
     ensures { Gives typed_stmt result (return_rule (plain_type t.now) first (mark m) (checked x)) }
 {
     if is_unusable_value(&x) {
-        Err(refuse(TypeKind::Operand, m.at, x))
+        refused(TypeKind::Operand, m.at, x)
     } else {
         returned(alloc, t, first, m, x)
     }

@@ -1,8 +1,9 @@
 //! Functions with a body (C99 6.9.1).
-ghost use Rattle.std.specs.Prelude.{◌≡◌, ◌++◌, [], ◌∷◌, false, IfOk, OnOk, map, true};
+ghost use Rattle.std.specs.Prelude.{◌≡◌, ◌++◌, [], ◌∷◌, false, IfOk, OnOk, length, map, true};
 ghost use Rattle.ob_tree.specs.ExpressionView.{spec_tree};
 ghost use Rattle.ob_tree.specs.ProgramView.{params_tree, stmt_tree};
 ghost use Rattle.ob_tree.specs.TypeView.{plain_type};
+ghost use Rattle.ob_typed.specs.Counts.{weight};
 ghost use Rattle.ob_typed.specs.Faults.{then_rule};
 ghost use Rattle.ob_typed.specs.Statements.{check_block, stmt_list};
 ghost use Rattle.ob_typed.specs.TypedTree.{TypedStmt};
@@ -88,6 +89,18 @@ fn counted(count: usize) -> Result<u32, NoMemory>
     }
 }
 
+/// The weight of a function of this body, with `nodes` expressions.
+fn weight_of(body: &Body, nodes: u64, statements: &TStmt) -> Result<u64, NoMemory>
+    ensures { IfOk result (λ n. n ≡ weight (known_of body.now.known).structs (length (body_of body.now).locals) nodes (typed_stmt statements.now)) }
+{
+    weight(
+        body.known.structs.rows(),
+        body.locals.len(),
+        nodes,
+        statements,
+    )
+}
+
 /// A function of this body, with `count` parameters and `nodes` expressions. Its automatic objects are taken from what its
 /// statements added to.
 fn function(
@@ -103,8 +116,7 @@ fn function(
     ensures known { known_of body.new.known ≡ known_of body.old.known }
     ensures stays { stand_of body.new.known ≡ stand_of body.old.known }
 {
-    let weighed = weight(&body.known.structs, body.locals.len(), nodes, &statements);
-    let (weight, statements) = beside(weighed, statements)?;
+    let (weight, statements) = beside(weight_of(body, nodes, &statements), statements)?;
     let (result, statements) = beside(copy_type(alloc, t), statements)?;
     let (name, (result, statements)) = beside(name.copy(alloc), (result, statements))?;
     let (params, (name, result, statements)) = beside(counted(count), (name, result, statements))?;

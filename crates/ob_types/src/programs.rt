@@ -114,7 +114,7 @@ fn typed(p: &Program, file: File, main: u32) -> Typed
     } = known;
     let_go((tags, calls, around));
     Typed {
-        structs,
+        structs: structs.into_rows(),
         statics,
         functions,
         main,

@@ -17,9 +17,8 @@ ghost use Rattle.ob_uses.specs.Passing.{typed_list};
 
 use crate::arguments::Argument;
 use crate::passing::{any_unusable, passed};
-use crate::refused::refused;
 use ob_base::{NoMemory, Text, listed, with_last};
-use ob_context::{Env, Known};
+use ob_context::{Env, Known, refused};
 use ob_conversions::types::{copy_type, pointer_to};
 use ob_conversions::{Checked, Mark, beside};
 use ob_rules::refused::operand;

@@ -3,7 +3,7 @@
 //!
 //! Each call answers exactly as the definition of its name in `ob_typed` does, or has too little memory; what it was
 //! given is let go where it gives a fault. Stands on `ob_base`, `ob_words`, `ob_tree`, `ob_typed`, `ob_layout`, `ob_scopes`,
-//! `ob_conversions`, `ob_rules` and `ob_context`.
+//! `ob_members`, `ob_conversions`, `ob_rules` and `ob_context`.
 //!
 //! To be believed are the rules of `ob_typed` (`PostfixRules`, `Expressions`); and here `ArgumentView`, which reads arguments
 //! as the definition's. `MemberTypes` and `Passing` serve the proof.
@@ -19,4 +19,3 @@ mod calls;
 mod members;
 mod names;
 mod passing;
-mod refused;

@@ -2,8 +2,8 @@
 ghost use Rattle.std.specs.Prelude.{◌≡◌, Err, IfOk, option_map};
 ghost use Rattle.ob_tree.specs.declared.faults.TypeFault.TheVariants.{Fault};
 ghost use Rattle.ob_tree.specs.declared.faults.TypeKind.TheVariants as kind;
-ghost use Rattle.ob_tree.specs.Sizes.{member};
-ghost use Rattle.ob_tree.specs.StructsView.{plain_structs};
+ghost use Rattle.ob_tree.specs.Sizes.{is_complete, member};
+ghost use Rattle.ob_tree.specs.Types.{PlainType};
 ghost use Rattle.ob_tree.specs.TypeView.{plain_struct, plain_type};
 ghost use Rattle.ob_typed.specs.Conversions.{Checked as PlainChecked};
 ghost use Rattle.ob_typed.specs.Faults.{place_behind};
@@ -11,18 +11,20 @@ ghost use Rattle.ob_typed.specs.Places.{pointed_to};
 ghost use Rattle.ob_typed.specs.PostfixRules.{arrow_rule, member_found, member_of, member_rule};
 ghost use Rattle.ob_typed.specs.TypedTree.{TypedLean};
 ghost use Rattle.ob_typed.specs.TypedView.{typed_expr, typed_lean};
+ghost use Rattle.ob_members.specs.StructuresView.{plain_structures};
 ghost use Rattle.ob_conversions.specs.CheckedView.{checked, mark, target};
 ghost use Rattle.ob_conversions.specs.Gives.{Gives};
 ghost use Rattle.ob_uses.specs.MemberTypes.{placed_member, type_at};
 
-use crate::refused::refused;
 use ob_base::{NoMemory, Text, boxed_with, let_go};
+use ob_context::refused;
 use ob_conversions::leans::pointed_to;
 use ob_conversions::types::{copy_type, target};
 use ob_conversions::values::placed;
 use ob_conversions::{Checked, Mark, beside};
-use ob_layout::{is_complete, member};
-use ob_tree::{CType, StructRow, Structs, TypeFault, TypeKind};
+use ob_layout::is_complete;
+use ob_members::Structures;
+use ob_tree::{CType, StructRow, TypeFault, TypeKind};
 use ob_typed::{TExpr, TLean, TPlace};
 use std::alloc::Global;
 
@@ -77,23 +79,30 @@ fn member_found(
     }
 }
 
+/// Whether the structure of a number is complete.
+fn is_whole(s: &Structures, number: u32) -> bool
+    ensures { result ≡ is_complete (plain_structures s.now) (PlainType.Struct number) }
+{
+    is_complete(s.rows(), &CType::Struct(number))
+}
+
 /// The member of a name in the structure of a number. A structure with members is complete, so that the last branch
 /// never comes.
 fn struct_member(
     alloc: Global,
-    s: &Structs,
+    s: &Structures,
     m: Mark,
     number: u32,
     lean: TLean,
     name: &Text,
 ) -> Result<Checked, TypeFault>
-    ensures { Gives checked result (member_found (mark m) (typed_lean lean) (member (plain_structs s.now) number name.now)) }
+    ensures { Gives checked result (member_found (mark m) (typed_lean lean) (member (plain_structures s.now) number name.now)) }
 {
     match s.row(number) {
         Some(row) => if row.members.is_empty() {
             no_member(m, lean)
-        } else if is_complete(s, &CType::Struct(number)) {
-            member_found(alloc, m, row, member(s, number, name), lean)
+        } else if is_whole(s, number) {
+            member_found(alloc, m, row, s.member(number, name), lean)
         } else {
             let_go(lean);
             Err(TypeFault::NoMemory)
@@ -105,13 +114,13 @@ fn struct_member(
 /// The member of a name in what lies at a place of a type.
 fn member_of(
     alloc: Global,
-    s: &Structs,
+    s: &Structures,
     m: Mark,
     t: &CType,
     lean: TLean,
     name: &Text,
 ) -> Result<Checked, TypeFault>
-    ensures { Gives checked result (member_of (plain_structs s.now) (mark m) (plain_type t.now) (typed_lean lean) name.now) }
+    ensures { Gives checked result (member_of (plain_structures s.now) (mark m) (plain_type t.now) (typed_lean lean) name.now) }
 {
     match t {
         CType::Struct(number) => struct_member(alloc, s, m, *number, lean, name),
@@ -122,12 +131,12 @@ fn member_of(
 /// `.`: the member of a name in the structure at a place. The name's token follows the `.`.
 pub fn member_rule(
     alloc: Global,
-    s: &Structs,
+    s: &Structures,
     m: Mark,
     x: Checked,
     name: &Text,
 ) -> Result<Checked, TypeFault>
-    ensures { Gives checked result (member_rule (plain_structs s.now) (mark m) (checked x) name.now) }
+    ensures { Gives checked result (member_rule (plain_structures s.now) (mark m) (checked x) name.now) }
 {
     match x {
         Checked::Place(p) => {
@@ -141,12 +150,12 @@ pub fn member_rule(
 /// The member of a name in what a pointer points to.
 fn pointed_member(
     alloc: Global,
-    s: &Structs,
+    s: &Structures,
     m: Mark,
     x: TExpr,
     name: &Text,
 ) -> Result<Checked, TypeFault>
-    ensures { Gives checked result (member_of (plain_structs s.now) (mark m) (target (plain_type x.ty)) (pointed_to (typed_expr x)) name.now) }
+    ensures { Gives checked result (member_of (plain_structures s.now) (mark m) (target (plain_type x.ty)) (pointed_to (typed_expr x)) name.now) }
 {
     let (t, x) = beside(target(alloc, &x.ty), x)?;
     let (lean, t) = beside(pointed_to(alloc, x), t)?;
@@ -156,12 +165,12 @@ fn pointed_member(
 /// `->`: the member of a name in the structure that a pointer points to. The name's token follows the `->`.
 pub fn arrow_rule(
     alloc: Global,
-    s: &Structs,
+    s: &Structures,
     m: Mark,
     x: TExpr,
     name: &Text,
 ) -> Result<Checked, TypeFault>
-    ensures { Gives checked result (arrow_rule (plain_structs s.now) (mark m) (typed_expr x) name.now) }
+    ensures { Gives checked result (arrow_rule (plain_structures s.now) (mark m) (typed_expr x) name.now) }
 {
     match &x.ty {
         CType::Pointer(_) => pointed_member(alloc, s, m, x, name),

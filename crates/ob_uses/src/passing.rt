@@ -1,48 +1,23 @@
 //! The arguments of a call in the types of the parameters (C99 6.5.2.2).
-ghost use Rattle.std.specs.Prelude.{ℕ, ◌≡◌, ◌++◌, Ok, [], ◌∷◌, IfOk, option_map, slice_get};
+ghost use Rattle.std.specs.Prelude.{◌≡◌, ◌++◌, Ok, [], ◌∷◌, option_map, slice_get};
 ghost use Rattle.ob_tree.specs.TypeView.{plain_type, plain_types};
-ghost use Rattle.ob_typed.specs.Conversions.{as_type, loaded, value, value_type};
 ghost use Rattle.ob_typed.specs.Faults.{then_rule};
 ghost use Rattle.ob_typed.specs.PostfixRules.{any_unusable, passed};
-ghost use Rattle.ob_typed.specs.TypeTests.{is_unusable};
-ghost use Rattle.ob_typed.specs.TypedTree.{TypedLean};
 ghost use Rattle.ob_typed.specs.TypedView.{typed_expr};
-ghost use Rattle.ob_conversions.specs.CheckedView.{checked, mark};
+ghost use Rattle.ob_conversions.specs.CheckedView.{mark};
 ghost use Rattle.ob_conversions.specs.Gives.{Gives};
 ghost use Rattle.ob_uses.specs.ArgumentView.{argument, arguments};
 ghost use Rattle.ob_uses.specs.Passing.{converted, typed_list};
 
 use crate::arguments::Argument;
-use crate::refused::refused;
-use ob_base::{NoMemory, push_on};
-use ob_conversions::fitting::{as_type, fits};
-use ob_conversions::types::{copy_type, is_unusable};
-use ob_conversions::values::value;
-use ob_conversions::{Checked, Mark, beside};
+use ob_base::push_on;
+use ob_context::refused;
+use ob_conversions::Mark;
+use ob_conversions::fitting::{fits, value_as_type};
+use ob_conversions::values::is_unusable_value;
 use ob_tree::{CType, TypeFault, TypeKind};
 use ob_typed::TExpr;
 use std::alloc::Global;
-
-/// Whether the value of a place of type `t` may not be used.
-fn is_unusable_loaded(t: &CType) -> bool
-    ensures { (line : ℕ) (lean : TypedLean) → result ≡ is_unusable (value_type (loaded line (plain_type t.now) lean)) }
-{
-    match t {
-        CType::Array(_, _) => false,
-        t => is_unusable(t),
-    }
-}
-
-/// Whether the value of an expression may not be used.
-fn is_unusable_value(x: &Checked) -> bool
-    ensures { result ≡ is_unusable (value_type (value (checked x.now))) }
-{
-    match x {
-        Checked::Place(p) => is_unusable_loaded(&p.ty),
-        Checked::NullPointer { value, .. } => is_unusable(&value.ty),
-        Checked::Plain(value) => is_unusable(&value.ty),
-    }
-}
 
 /// Whether the value of some argument may not be used.
 pub(crate) fn any_unusable(given: &Vec<Argument>) -> bool
@@ -56,22 +31,13 @@ pub(crate) fn any_unusable(given: &Vec<Argument>) -> bool
     false
 }
 
-/// A value that converts to a type, in a type of its own that is the same.
-fn in_type(alloc: Global, x: Checked, t: &CType) -> Result<TExpr, NoMemory>
-    ensures { IfOk result (λ r. typed_expr r ≡ as_type (value (checked x)) (plain_type t.now)) }
-{
-    let (x, t) = beside(value(alloc, x), t)?;
-    let (t, x) = beside(copy_type(alloc, t), x)?;
-    as_type(alloc, x, t)
-}
-
 /// An argument in the type of a parameter.
 fn converted(alloc: Global, a: Argument, t: &CType) -> Result<TExpr, TypeFault>
     ensures { Gives typed_expr result (converted (argument a) (plain_type t.now)) }
 {
     let Argument { first, is } = a;
     if fits(&is, t) {
-        Ok(in_type(alloc, is, t)?)
+        Ok(value_as_type(alloc, is, t)?)
     } else {
         refused(TypeKind::Assign, first, is)
     }

@@ -11,7 +11,7 @@ ghost use Rattle.ob_variables.specs.Pieces.{initial_local, local_walk};
 
 use crate::body::Body;
 use crate::naming::check_named;
-use crate::rules::{named, own_type, variable};
+use crate::rules::{named, own_type, variable, whole_type};
 use crate::statics::check_static;
 use ob_base::{NoMemory, Text, let_go};
 use ob_context::{Env, beside_part};
@@ -19,7 +19,6 @@ use ob_conversions::beside;
 use ob_conversions::types::copy_type;
 use ob_initialisers::completed;
 use ob_scopes::{Named, Storage};
-use ob_specifiers::object_type;
 use ob_tree::{CType, Init, ObjDecl, TypeFault};
 use ob_typed::{TInit, TStmt};
 use std::alloc::Global;
@@ -106,7 +105,7 @@ fn initialised(
     let (x, t) = beside_part(walked(alloc, env, body, number, name, &t, i), t)?;
     let (u, x) = beside(completed(alloc, &t, &x), x)?;
     let_go(t);
-    let ((), (u, x)) = beside_part(object_type(&body.known.structs, &u, at), (u, x))?;
+    let ((), (u, x)) = beside_part(whole_type(&body.known, &u, at), (u, x))?;
     let (own, (u, x)) = beside(copy_type(alloc, &u), (u, x))?;
     body.set_local(number, own);
     Ok(Introduced {

@@ -5,7 +5,7 @@ ghost use Rattle.ob_tree.specs.StructsView.{plain_structs};
 ghost use Rattle.ob_tree.specs.TypeView.{plain_type};
 ghost use Rattle.ob_typed.specs.Declarations.{named, variable_rule, variable_type};
 ghost use Rattle.ob_typed.specs.Scopes.{Meaning as PlainMeaning, find, is_at};
-ghost use Rattle.ob_typed.specs.Specifiers.{declarator_type};
+ghost use Rattle.ob_typed.specs.Specifiers.{declarator_type, object_type};
 ghost use Rattle.ob_scopes.specs.Names.{lean_of, plain_meaning};
 ghost use Rattle.ob_conversions.specs.Gives.{Gives};
 ghost use Rattle.ob_context.specs.KnownView.{env_of, known_of, stand_of};
@@ -13,10 +13,9 @@ ghost use Rattle.ob_context.specs.Walks.{Walks};
 ghost use Rattle.ob_variables.specs.Pieces.{own_type};
 
 use ob_base::{NoMemory, Text, let_go};
-use ob_context::{Env, Known};
+use ob_context::{Env, Known, refused};
 use ob_conversions::types::copy_type;
 use ob_expressions::check_lengths;
-use ob_initialisers::refuse;
 use ob_scopes::{Meaning, Named, Storage, find_name};
 use ob_specifiers::{declarator_type, object_type};
 use ob_tree::{CType, ObjDecl, Structs, TypeFault, TypeKind};
@@ -67,6 +66,13 @@ fn is_declared_here(env: &Env, known: &Known, name: &Text) -> bool
     }
 }
 
+/// That an object may have this type, the structures being known; `at` is the place of its name.
+pub(crate) fn whole_type(known: &Known, t: &CType, at: u32) -> Result<(), TypeFault>
+    ensures { Gives (λ _. plain_type t.now) result (object_type (known_of known.now).structs (plain_type t.now) at) }
+{
+    object_type(known.structs.rows(), t, at)
+}
+
 /// That an object may have a type. An array without a length gets one from its initialiser.
 fn variable_type(s: &Structs, initial: bool, t: &CType, at: u32) -> Result<(), TypeFault>
     ensures { Gives (λ _. plain_type t.now) result (variable_type (plain_structs s.now) initial (plain_type t.now) at) }
@@ -90,12 +96,12 @@ fn variable_rule(
     t: CType,
     at: u32,
 ) -> Result<CType, TypeFault>
-    ensures { Gives plain_type result (variable_rule (plain_structs known.now.structs) (env_of env.now (stand_of known.now)) initial name.now (plain_type t) at) }
+    ensures { Gives plain_type result (variable_rule (known_of known.now).structs (env_of env.now (stand_of known.now)) initial name.now (plain_type t) at) }
 {
     if is_declared_here(env, known, name) {
-        return Err(refuse(TypeKind::Twice, at, t));
+        return refused(TypeKind::Twice, at, t);
     }
-    match variable_type(&known.structs, initial, &t, at) {
+    match variable_type(known.structs.rows(), initial, &t, at) {
         Ok(()) => Ok(t),
         Err(fault) => {
             let_go(t);

@@ -4,7 +4,7 @@ ghost use Rattle.std.specs.Prelude.{◌≡◌, IfOk, OnOk, length};
 ghost use Rattle.ob_tree.specs.ExpressionView.{init_tree, obj_tree};
 ghost use Rattle.ob_tree.specs.TypeView.{plain_type};
 ghost use Rattle.ob_typed.specs.Declarations.{check_static, named, set_static, static_object, variable};
-ghost use Rattle.ob_typed.specs.Images.{no_image};
+ghost use Rattle.ob_typed.specs.Images.{image, no_image};
 ghost use Rattle.ob_typed.specs.TypedTree.{TypedLean};
 ghost use Rattle.ob_typed.specs.TypedView.{plain_image, typed_init, typed_object};
 ghost use Rattle.ob_scopes.specs.Names.{declared_as};
@@ -14,7 +14,7 @@ ghost use Rattle.ob_variables.specs.BodyView.{name_of};
 ghost use Rattle.ob_variables.specs.Pieces.{held_static, initial_static, static_walk};
 
 use crate::naming::check_named;
-use crate::rules::{named, own_type, variable};
+use crate::rules::{named, own_type, variable, whole_type};
 use ob_base::{NoMemory, Text, let_go};
 use ob_consts::initial_image;
 use ob_context::{Env, Known, beside_part};
@@ -22,7 +22,6 @@ use ob_conversions::beside;
 use ob_conversions::types::copy_type;
 use ob_initialisers::{completed, foreseen};
 use ob_scopes::{Named, Storage};
-use ob_specifiers::object_type;
 use ob_tree::{CType, Init, ObjDecl, TypeFault};
 use ob_typed::{StaticImage, TInit, TStatic};
 use std::alloc::Global;
@@ -110,7 +109,7 @@ fn initialised(
     let (x, t) = beside_part(walked(alloc, env, known, line, number, name, &t, i), t)?;
     let (u, x) = beside(completed(alloc, &t, &x), x)?;
     let_go(t);
-    let ((), (u, x)) = beside_part(object_type(&known.structs, &u, at), (u, x))?;
+    let ((), (u, x)) = beside_part(whole_type(known, &u, at), (u, x))?;
     Ok(finished(alloc, known, line, number, name, u, x)?)
 }
 
@@ -137,6 +136,13 @@ fn walked(
     check_named(alloc, env, known, true, name, named, t, i)
 }
 
+/// What an object of this type with this initialiser holds at the start.
+fn image_of(alloc: Global, known: &Known, t: &CType, x: &TInit) -> Result<StaticImage, NoMemory>
+    ensures { IfOk result (λ i. plain_image i ≡ image (known_of known.now).structs (plain_type t.now) (typed_init x.now)) }
+{
+    initial_image(alloc, known.structs.rows(), t, x)
+}
+
 /// Gives static object `number` its type and what it holds.
 fn finished(
     alloc: Global,
@@ -151,7 +157,7 @@ fn finished(
     ensures known { OnOk result (known_of known.new ≡ held_static (named name.now line) number (plain_type u) (typed_init x) (known_of known.old)) }
     ensures stays { OnOk result (stand_of known.new ≡ stand_of known.old) }
 {
-    let (image, u) = beside(initial_image(alloc, &known.structs, &u, &x), u)?;
+    let (image, u) = beside(image_of(alloc, known, &u, &x), u)?;
     let_go(x);
     let (ty, (u, image)) = beside(copy_type(alloc, &u), (u, image))?;
     let (name, (ty, u, image)) = beside(named(alloc, name, line), (ty, u, image))?;

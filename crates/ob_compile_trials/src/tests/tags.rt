@@ -70,6 +70,10 @@ ok:int main(void){(struct s{int a;}*)0;struct s x;x.a=1;}
 20 Member:struct s{int a;}**p;int main(void){return p->a;}
 21 Member:struct s{int a;}x[2];int main(void){return x.a;}
 ok:struct s{int a;}x[2];int main(void){return x->a;}
+ok:struct s{char a,b,c,d,e,f,g,h,i,j,k,l,m,n,o;int*p;}x;int main(void){return x.a+*x.p;}
+ok:struct s{char a,b,c,d,e,f,g,h,i,j,k,l,m,n,o,p;int*q;}x;int main(void){return x.a+x.p+*x.q;}
+51 Member:struct s{char a,b,c,d,e,f,g,h,i,j,k,l,m,n,o,p;int q;}x;int main(void){return x.r;}
+ok:struct s{int a[3];struct{int b,c,d;}e;char f,g,h,i,j,k,l,m,n,o,p,q,r,s,t;}x;int main(void){return x.a[2]+x.e.d+x.t;}
 ok:struct s{struct{int b;}a;}x;int main(void){return x.a.b;}
 23 Member:struct s{struct{int b;}a;}x;int main(void){return x.b;}
 17 Member:void f(void){}int main(void){f().a;}

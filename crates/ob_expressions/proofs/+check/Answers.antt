@@ -29,7 +29,7 @@ specifiers::check_member-returns-in_err-lengths-clause-walks t c =
 pub specifiers::check_member-returns-clause-walks :
     goal.specifiers::check_member-returns-clause-walks
 specifiers::check_member-returns-clause-walks t c =
-    gives_walks _ c.add.result _ _ _ c.add.ensures
+    gives_walks _ c.add_member.result _ _ _ c.add_member.ensures
     (member_on (env_of c.args.env.now (stand_of c.args.known.now)) (plain_type c.args.t.now) (plain_type c.in_ok-t-2.t) c.args.list.now c.args.o.now (known_of c.args.known.now) (known_of c.check_lengths.new.known) c.in_ok-lengths.lengths.items
     (first_of (search rules, grind (arith, common_steps))) (first_of (search rules, grind (arith, common_steps))))
 

@@ -1,0 +1,2 @@
+pub mod KeptIndexes
+pub mod MemberPlaces
