@@ -1,6 +1,7 @@
 -- Rows that are put one behind the other.
-use Rattle.std.proofs.Common.{rules, ◌≡◌, ◌<◌, ℕ, zero, suc, ◌+◌, Bool, true, Option, Some, None, List, [], ◌∷◌, ◌++◌, length, drop, map, refl, ap, sym, ◌∙◌, append_assoc, append_nil}
+use Rattle.std.proofs.Common.{rules, ◌≡◌, ◌<◌, ℕ, zero, suc, ◌+◌, Bool, true, Option, Some, None, List, [], ◌∷◌, ◌++◌, length, drop, map, refl, ap, sym, ◌∙◌, append_assoc}
 use Rattle.std.specs.List.{All, list_all, slice_get}
+use Rattle.std.proofs.lemmas.List.{append-nil}
 use Rattle.std.proofs.lemmas.List.Folds.{list_all-map}
 use Rattle.std.proofs.lemmas.List.Recursion.{and_at}
 use Rattle.std.proofs.lemmas.Option.{slice_get_within, get_or_from_slice_get}
@@ -45,7 +46,7 @@ no_rows s i p (t ∷ ts) = refl
 pub rows_end : (s : PlainStructs) (i p : ℕ) (ts : List PlainType) (hs : List Home) (whole rows : List LocalRow) → hs ≡ [] →
     whole ≡ rows ++ rows_from s i p ts hs → rows ≡ whole
 rows_end s i p ts hs whole rows none is =
-    sym (is ∙ (ap (λ gs. rows ++ rows_from s i p ts gs) none ∙ (ap (λ rs. rows ++ rs) (no_rows s i p ts) ∙ append_nil rows)))
+    sym (is ∙ (ap (λ gs. rows ++ rows_from s i p ts gs) none ∙ (ap (λ rs. rows ++ rs) (no_rows s i p ts) ∙ append-nil rows)))
 
 -- types that pass are complete
 pub all_complete : (s : PlainStructs) (xs : List CType) → list_all (λ t. is_complete s (plain_type t)) xs ≡ true → All (IsComplete s) (plain_types xs)

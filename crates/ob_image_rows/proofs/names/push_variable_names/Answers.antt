@@ -1,6 +1,5 @@
-use Rattle.std.proofs.Common.{rules, ◌≡◌, ◌<◌, ◌+◌, List, [], ◌∷◌, ◌++◌, Some, length, drop, get_or, ap, sym, subst, ◌∙◌, arith}
+use Rattle.std.proofs.Common.{◌≡◌, ◌<◌, ◌+◌, List, [], ◌∷◌, ◌++◌, Some, length, drop, get_or, ap, sym, subst, ◌∙◌, arith}
 use Rattle.std.specs.List.{slice_get}
-use Rattle.std.proofs.lemmas.Grind.{common_steps}
 use Rattle.ob_tree.specs.TypeView.{plain_type, plain_types}
 use Rattle.ob_lower.specs.Names.{home_word, row_if_named, variable_names}
 use Rattle.ob_homes.specs.HomesView.{plain_home, plain_homes}
@@ -17,19 +16,19 @@ loop-name-preserved c =
     let v = c.loop-name.ordinal in
     let n = c.name-item.result in
     let t = plain_type c.in-Some.t.now in
-    let h = plain_home c.in-Some-get.home.now in
+    let h = plain_home c.in-Some-home_at.home in
     let same = c.loop-name.invariant.ordinal in
     let all = c.args.rows.now.items ++ variable_names holder 0 ns ts hs in
     let within : v < length ns = omega arith in
     let item : n ≡ get_or ns c.loop-name.name-index n = c.name-item.is ∙ ap (λ ys. get_or ys c.loop-name.name-index n) c.deref-name-items.ensures.value in
     let is : n ≡ get_or ns v n = subst (λ k. n ≡ get_or ns k n) (sym same) item in
-    let has_type : slice_get c.args.f.now.locals.items v ≡ Some c.in-Some.t.now = first_of (search rules, grind (arith, common_steps)) in
-    let has_home : slice_get c.args.h.now.list.items v ≡ Some c.in-Some-get.home.now = first_of (search rules, grind (arith, common_steps)) in
+    let has_type : slice_get c.args.f.now.locals.items v ≡ Some c.in-Some.t.now = sym c.in-Some.ensures in
+    let has_home : slice_get c.args.h.now.list.items v ≡ Some c.in-Some-home_at.home = sym c.in-Some-home_at.ensures in
     let whole = subst (λ k. all ≡ c.loop-name.rows.items ++ variable_names holder k (drop k ns) (drop k ts) (drop k hs)) (sym same) c.loop-name.invariant.whole in
     let opens =
         ap (λ ms. variable_names holder v ms (drop v ts) (drop v hs)) (opened ns v n within is)
         ∙ (ap (λ us. variable_names holder v (n ∷ drop (v + 1) ns) us (drop v hs)) (opened_found plain_type c.args.f.now.locals.items v c.in-Some.t.now has_type)
-           ∙ ap (λ gs. variable_names holder v (n ∷ drop (v + 1) ns) (t ∷ drop (v + 1) ts) gs) (opened_found plain_home c.args.h.now.list.items v c.in-Some-get.home.now has_home)) in
+           ∙ ap (λ gs. variable_names holder v (n ∷ drop (v + 1) ns) (t ∷ drop (v + 1) ts) gs) (opened_found plain_home c.args.h.now.list.items v c.in-Some-home_at.home has_home)) in
     let pushed = c.in_ok-push_name.ensures ∙ ap (λ w. c.loop-name.rows.items ++ row_if_named holder v w t n) c.home_word.ensures in
     let more = taken all c.loop-name.rows.items (variable_names holder v (drop v ns) (drop v ts) (drop v hs)) (row_if_named holder v (home_word h) t n) (variable_names holder (v + 1) (drop (v + 1) ns) (drop (v + 1) ts) (drop (v + 1) hs)) c.push_name.new.rows.items whole opens pushed in
     record {
