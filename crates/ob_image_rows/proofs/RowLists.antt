@@ -1,5 +1,5 @@
 -- Rows that are put one behind the other.
-use Rattle.std.proofs.Common.{rules, ◌≡◌, ◌<◌, ℕ, zero, suc, ◌+◌, Bool, true, Option, Some, None, List, [], ◌∷◌, ◌++◌, length, drop, map, refl, ap, sym, ◌∙◌, append_assoc}
+use Rattle.std.proofs.Common.{rules, ◌≡◌, ◌<◌, ℕ, zero, suc, ◌+◌, Bool, true, Option, Some, None, List, [], ◌∷◌, ◌++◌, length, drop, map, ◌⊎◌, ⊎_elim, refl, ap, sym, ◌∙◌, append_assoc}
 use Rattle.std.specs.List.{All, list_all, slice_get}
 use Rattle.std.proofs.lemmas.List.{append-nil}
 use Rattle.std.proofs.lemmas.List.Folds.{list_all-map}
@@ -11,6 +11,9 @@ use Rattle.ob_tree.specs.Sizes.{IsComplete, is_complete}
 use Rattle.ob_tree.specs.Types.{PlainStructs, PlainType}
 use Rattle.ob_tree.specs.TypeView.{plain_type, plain_types}
 use Rattle.ob_code.specs.declared.image.LocalRow.{LocalRow}
+use Rattle.ob_code.specs.declared.image.NameRow.{NameRow}
+use Rattle.ob_typed.specs.declared.names.VarName.{VarName}
+use Rattle.ob_lower.specs.Names.{variable_names}
 use Rattle.ob_lower.specs.Homes.{Home}
 use Rattle.ob_lower.specs.Functions.{row_first, rows_from}
 
@@ -47,6 +50,16 @@ pub rows_end : (s : PlainStructs) (i p : ℕ) (ts : List PlainType) (hs : List H
     whole ≡ rows ++ rows_from s i p ts hs → rows ≡ whole
 rows_end s i p ts hs whole rows none is =
     sym (is ∙ (ap (λ gs. rows ++ rows_from s i p ts gs) none ∙ (ap (λ rs. rows ++ rs) (no_rows s i p ts) ∙ append-nil rows)))
+
+no_names : (holder i : ℕ) (ns : List VarName) (ts : List PlainType) (hs : List Home) → (ts ≡ []) ⊎ (hs ≡ []) → variable_names holder i ns ts hs ≡ []
+no_names holder i [] ts hs none = refl
+no_names holder i (n ∷ ns) [] hs none = refl
+no_names holder i (n ∷ ns) (t ∷ ts) [] none = refl
+no_names holder i (n ∷ ns) (t ∷ ts) (h ∷ hs) none = absurd (⊎_elim (λ (e : t ∷ ts ≡ []). cc) (λ (e : h ∷ hs ≡ []). cc) none)
+
+pub names_end : (holder i : ℕ) (ns : List VarName) (ts : List PlainType) (hs : List Home) (whole rows : List NameRow) → (ts ≡ []) ⊎ (hs ≡ []) →
+    whole ≡ rows ++ variable_names holder i ns ts hs → rows ≡ whole
+names_end holder i ns ts hs whole rows none is = sym (is ∙ (ap (λ rs. rows ++ rs) (no_names holder i ns ts hs none) ∙ append-nil rows))
 
 -- types that pass are complete
 pub all_complete : (s : PlainStructs) (xs : List CType) → list_all (λ t. is_complete s (plain_type t)) xs ≡ true → All (IsComplete s) (plain_types xs)

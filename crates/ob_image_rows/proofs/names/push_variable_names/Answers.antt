@@ -1,10 +1,10 @@
-use Rattle.std.proofs.Common.{◌≡◌, ◌<◌, ◌+◌, List, [], ◌∷◌, ◌++◌, Some, length, drop, get_or, ap, sym, subst, ◌∙◌, arith}
+use Rattle.std.proofs.Common.{◌≡◌, ◌<◌, ◌+◌, List, [], ◌∷◌, ◌++◌, Some, None, inl, inr, length, drop, get_or, ap, sym, subst, ◌∙◌, arith}
 use Rattle.std.specs.List.{slice_get}
 use Rattle.ob_tree.specs.TypeView.{plain_type, plain_types}
 use Rattle.ob_lower.specs.Names.{home_word, row_if_named, variable_names}
 use Rattle.ob_homes.specs.HomesView.{plain_home, plain_homes}
 use Rattle.ob_homes.proofs.HomeLists.{opened}
-use Rattle.ob_image_rows.proofs.RowLists.{opened_found, taken}
+use Rattle.ob_image_rows.proofs.RowLists.{names_end, opened_found, opened_nowhere, taken}
 use Rattle.ob_image_rows.proofs.names.push_variable_names.Goals as goal
 
 pub loop-name-preserved : goal.loop-name-preserved
@@ -35,3 +35,23 @@ loop-name-preserved c =
       ordinal = c.in_ok-ordinal.ensures ∙ ap (λ k. k + 1) same;
       whole = subst (λ k. all ≡ c.push_name.new.rows.items ++ variable_names holder (k + 1) (drop (k + 1) ns) (drop (k + 1) ts) (drop (k + 1) hs)) same more;
     }
+
+pub returns-in_default : goal.returns-in_default
+returns-in_default c =
+    let ns = c.args.f.now.names.items in
+    let ts = plain_types c.args.f.now.locals.items in
+    let hs = plain_homes c.args.h.now.list.items in
+    let i = c.loop-name.name-index in
+    let nowhere : slice_get c.args.f.now.locals.items c.loop-name.ordinal ≡ None = cc (c.in_default.is, c.type_at.ensures) in
+    let none = subst (λ k. drop k ts ≡ []) c.loop-name.invariant.ordinal (opened_nowhere plain_type c.args.f.now.locals.items c.loop-name.ordinal nowhere) in
+    names_end c.args.holder i (drop i ns) (drop i ts) (drop i hs) (c.args.rows.now.items ++ variable_names c.args.holder 0 ns ts hs) c.loop-name.rows.items (inl none) c.loop-name.invariant.whole
+
+pub returns-in_default-home_at : goal.returns-in_default-home_at
+returns-in_default-home_at c =
+    let ns = c.args.f.now.names.items in
+    let ts = plain_types c.args.f.now.locals.items in
+    let hs = plain_homes c.args.h.now.list.items in
+    let i = c.loop-name.name-index in
+    let nowhere : slice_get c.args.h.now.list.items c.loop-name.ordinal ≡ None = cc (c.in_default-home_at.is, c.home_at.ensures) in
+    let none = subst (λ k. drop k hs ≡ []) c.loop-name.invariant.ordinal (opened_nowhere plain_home c.args.h.now.list.items c.loop-name.ordinal nowhere) in
+    names_end c.args.holder i (drop i ns) (drop i ts) (drop i hs) (c.args.rows.now.items ++ variable_names c.args.holder 0 ns ts hs) c.loop-name.rows.items (inr none) c.loop-name.invariant.whole
