@@ -10,6 +10,7 @@ ghost use Rattle.ob_lower.specs.Functions.{row_first, row_of_words, rows_from};
 ghost use Rattle.ob_homes.specs.HomesView.{context_in, plain_home, plain_homes};
 
 use crate::adding::{add, next};
+use crate::lookup::home_at;
 use crate::sizes::{known_allowance, known_size};
 use ob_base::{NoMemory, push_on};
 use ob_code::{FunctionRow, LocalRow, Rows};
@@ -67,8 +68,8 @@ pub fn local_rows(
     let mut place = words_end(words);
     let mut ordinal: u32 = 0;
     for t in locals {
-        match h.list.get(ordinal as usize) {
-            Some(home) => push_local(&mut rows, s, *home, ordinal, &mut place, t)?,
+        match home_at(h, ordinal) {
+            Some(home) => push_local(&mut rows, s, home, ordinal, &mut place, t)?,
             None => return Ok(rows),
         }
         ordinal = next(ordinal)?;

@@ -14,6 +14,7 @@ pub use statics::{pointer_rows, static_rows};
 
 mod adding;
 mod functions;
+mod lookup;
 mod names;
 mod sizes;
 mod statics;

@@ -7,6 +7,7 @@ ghost use Rattle.ob_lower.specs.Names.{function_names, home_word, kind_number, r
 ghost use Rattle.ob_homes.specs.HomesView.{plain_home, plain_homes};
 
 use crate::adding::next;
+use crate::lookup::{home_at, type_at};
 use ob_base::{NoMemory, push_on};
 use ob_code::NameRow;
 use ob_homes::{Home, Homes, homes};
@@ -70,13 +71,13 @@ fn push_variable_names(
 {
     let mut ordinal: u32 = 0;
     for name in &f.names {
-        let Some(t) = f.locals.get(ordinal as usize) else {
+        let Some(t) = type_at(&f.locals, ordinal) else {
             return Ok(());
         };
-        let Some(home) = h.list.get(ordinal as usize) else {
+        let Some(home) = home_at(h, ordinal) else {
             return Ok(());
         };
-        push_name(alloc, rows, (holder, ordinal, home_word(*home)), t, name)?;
+        push_name(alloc, rows, (holder, ordinal, home_word(home)), t, name)?;
         ordinal = next(ordinal)?;
     }
     Ok(())
