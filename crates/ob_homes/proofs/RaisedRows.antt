@@ -17,13 +17,13 @@ use Rattle.ob_typed.specs.declared.statements.TStmt.{TStmt}
 use Rattle.ob_typed.specs.declared.statements.TStmt.TheBlock as stmts
 use Rattle.ob_typed.specs.declared.statements.TStmt.TheBlock.{Row_of-TStmt, end_of-TStmt, more_of-TStmt, items-the_row-TStmt, items_hidden-the_row-TStmt-0}
 use Rattle.ob_typed.specs.TypedView.{typed, typed_node, typed_expr, typed_option, typed_init, typed_stmt, argument_row, init_row, stmt_row}
-use Rattle.ob_homes.specs.Flags.{with_node, with_expr, with_arguments, with_option, with_init, with_items, with_stmt, with_stmts}
+use Rattle.ob_homes.specs.Flags.{with_node, with_expr, with_arguments, with_option, with_own, with_own_item, with_own_items, with_stmt, with_stmts}
 
 abbrev expr_step : List PlainType → List Bool → TExpr → List Bool
 expr_step ts fs e = with_expr (typed_expr e) ts fs
 
-abbrev init_step : List PlainType → List Bool → TInit → List Bool
-init_step ts fs i = with_init (typed_init i) ts fs
+abbrev init_step : ℕ → List PlainType → List Bool → TInit → List Bool
+init_step n ts fs i = with_own_item n (typed_init i) ts fs
 
 abbrev stmt_step : List PlainType → List Bool → TStmt → List Bool
 stmt_step ts fs s = with_stmt (typed_stmt s) ts fs
@@ -42,15 +42,20 @@ call_raises ts fs e es h = ⊎_elim
     (λ (p : (b : Builtin) × (e.node ≡ node.Builtin b es)). ap (λ x. with_node (typed_node x) ts fs) p.1 ∙ arguments_raise ts fs es)
     h
 
-items : (ts : List PlainType) (fs : List Bool) (n : _) (row : Row_of-TInit n) → with_items (init_row row) ts fs ≡ fold (init_step ts) fs (items-the_row-TInit n row)
-items ts fs n end_of-TInit = refl
-items ts fs n (more_of-TInit i is) = items ts (with_init (typed_init i) ts fs) _ is
+items : (own : ℕ) (ts : List PlainType) (fs : List Bool) (n : _) (row : Row_of-TInit n) → with_own_items own (init_row row) ts fs ≡ fold (init_step own ts) fs (items-the_row-TInit n row)
+items own ts fs n end_of-TInit = refl
+items own ts fs n (more_of-TInit i is) = items own ts (with_own_item own (typed_init i) ts fs) _ is
 
-pub list_raises : (ts : List PlainType) (fs : List Bool) (i : TInit) (is : Vec TInit Global) → i ≡ init.List is →
-    with_init (typed_init i) ts fs ≡ fold (λ gs x. with_init (typed_init x) ts gs) fs is.items
-list_raises ts fs i is h =
-    ap (λ x. with_init (typed_init x) ts fs) h
-    ∙ (items ts fs _ (inits.hidden-the_row-TInit-0 is) ∙ ap (fold (init_step ts) fs) (items_hidden-the_row-TInit-0 is))
+items_raise : (own : ℕ) (ts : List PlainType) (fs : List Bool) (is : Vec TInit Global) → with_own_items own (init_row (inits.hidden-the_row-TInit-0 is)) ts fs ≡ fold (init_step own ts) fs is.items
+items_raise own ts fs is = items own ts fs _ (inits.hidden-the_row-TInit-0 is) ∙ ap (fold (init_step own ts) fs) (items_hidden-the_row-TInit-0 is)
+
+pub list_raises : (own : ℕ) (ts : List PlainType) (fs : List Bool) (i : TInit) (is : Vec TInit Global) → i ≡ init.List is →
+    with_own_item own (typed_init i) ts fs ≡ fold (λ gs x. with_own_item own (typed_init x) ts gs) fs is.items
+list_raises own ts fs i is h = ap (λ x. with_own_item own (typed_init x) ts fs) h ∙ items_raise own ts fs is
+
+pub whole_list_raises : (own : ℕ) (ts : List PlainType) (fs : List Bool) (i : TInit) (is : Vec TInit Global) → i ≡ init.List is →
+    with_own own (typed_init i) ts fs ≡ fold (λ gs x. with_own_item own (typed_init x) ts gs) fs is.items
+whole_list_raises own ts fs i is h = ap (λ x. with_own own (typed_init x) ts fs) h ∙ items_raise own ts fs is
 
 statements : (ts : List PlainType) (fs : List Bool) (n : _) (row : Row_of-TStmt n) → with_stmts (stmt_row row) ts fs ≡ fold (stmt_step ts) fs (items-the_row-TStmt n row)
 statements ts fs n end_of-TStmt = refl

@@ -1,6 +1,6 @@
 -- A flag for each variable of a function: whether something of a tree exposes it. `flags_with` says which flags are raised; the
 -- walk of a tree, part after part, raises the same.
-use Rattle.std.specs.Prelude.{ℕ, ◌+◌, Bool, true, false, not, ◌||◌, List, [], ◌∷◌, Option, Some, None, length, replicate, slice_get, slice_set}
+use Rattle.std.specs.Prelude.{ℕ, ◌+◌, ◌==◌, Bool, true, false, not, ◌||◌, List, [], ◌∷◌, Option, Some, None, length, replicate, slice_get, slice_set}
 use Rattle.ob_tree.specs.Types.{PlainType}
 use Rattle.ob_typed.specs.TypedTree.{TypedExpr, TypedExprs, TypedFunction, TypedInit, TypedInits, TypedLean, TypedNode, TypedPlace, TypedStmt, TypedStmts}
 use Rattle.ob_typed.specs.TypedTree.TypedExpr.{Typed}
@@ -88,23 +88,48 @@ abbrev pub with_option : Option TypedExpr → List PlainType → List Bool → L
 with_option None ts flags = flags
 with_option (Some e) ts flags = with_expr e ts flags
 
-abbrev mutual
-  pub with_init : TypedInit → List PlainType → List Bool → List Bool
-  with_init (init.Value e) ts flags = with_expr e ts flags
-  with_init (init.Chars bytes) ts flags = flags
-  with_init (init.Items is) ts flags = with_items is ts flags
-  with_init (init.Copy (Place line ty from)) ts flags = with_lean from ts flags
+-- the initialiser of variable n, which may name n itself as the whole that it is copied from, or as a pointer among its items
+abbrev pub unless : Bool → ℕ → List PlainType → List Bool → List Bool
+unless true m ts flags = flags
+unless false m ts flags = with_variable m ts flags
 
-  pub with_items : TypedInits → List PlainType → List Bool → List Bool
-  with_items inits.NoItems ts flags = flags
-  with_items (inits.Item i is) ts flags = with_items is ts (with_init i ts flags)
+abbrev pub with_further : ℕ → TypedLean → List PlainType → List Bool → List Bool
+with_further n (at.Local m) ts flags = unless (n == m) m ts flags
+with_further n (at.Static i) ts flags = flags
+with_further n (at.Value e) ts flags = with_expr e ts flags
+with_further n (at.Slide lean scale minus number_first e) ts flags = with_expr e ts (with_lean lean ts flags)
+with_further n (at.Member lean offset) ts flags = with_lean lean ts flags
+
+abbrev pub with_own_node : ℕ → TypedNode → List PlainType → List Bool → List Bool
+with_own_node n (node.Lean lean) ts flags = with_further n lean ts flags
+with_own_node n what ts flags = with_node what ts flags
+
+abbrev pub with_own_expr : ℕ → TypedExpr → List PlainType → List Bool → List Bool
+with_own_expr n (Typed line ty what) ts flags = with_own_node n what ts flags
+
+abbrev mutual
+  pub with_own_item : ℕ → TypedInit → List PlainType → List Bool → List Bool
+  with_own_item n (init.Value e) ts flags = with_own_expr n e ts flags
+  with_own_item n (init.Chars bytes) ts flags = flags
+  with_own_item n (init.Items is) ts flags = with_own_items n is ts flags
+  with_own_item n (init.Copy (Place line ty from)) ts flags = with_lean from ts flags
+
+  pub with_own_items : ℕ → TypedInits → List PlainType → List Bool → List Bool
+  with_own_items n inits.NoItems ts flags = flags
+  with_own_items n (inits.Item i is) ts flags = with_own_items n is ts (with_own_item n i ts flags)
+
+abbrev pub with_own : ℕ → TypedInit → List PlainType → List Bool → List Bool
+with_own n (init.Value e) ts flags = with_expr e ts flags
+with_own n (init.Chars bytes) ts flags = flags
+with_own n (init.Items is) ts flags = with_own_items n is ts flags
+with_own n (init.Copy (Place line ty from)) ts flags = with_further n from ts flags
 
 abbrev mutual
   pub with_stmt : TypedStmt → List PlainType → List Bool → List Bool
   with_stmt stmt.Empty ts flags = flags
   with_stmt (stmt.Expr e) ts flags = with_expr e ts flags
   with_stmt (stmt.Block ss) ts flags = with_stmts ss ts flags
-  with_stmt (stmt.Init n i) ts flags = with_init i ts flags
+  with_stmt (stmt.Init n i) ts flags = with_own n i ts flags
   with_stmt (stmt.If e s) ts flags = with_stmt s ts (with_expr e ts flags)
   with_stmt (stmt.IfElse e s other) ts flags = with_stmt other ts (with_stmt s ts (with_expr e ts flags))
   with_stmt (stmt.While e s) ts flags = with_stmt s ts (with_expr e ts flags)

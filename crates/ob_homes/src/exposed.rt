@@ -3,7 +3,7 @@
 ghost use Rattle.std.specs.Prelude.{◌≡◌, true, false, fold, replicate, slice_set, IfOk};
 ghost use Rattle.ob_tree.specs.TypeView.{plain_type, plain_types};
 ghost use Rattle.ob_typed.specs.TypedView.{typed_expr, typed_function, typed_init, typed_lean, typed_option, typed_place, typed_stmt};
-ghost use Rattle.ob_homes.specs.Flags.{exposed_flags, with_expr, with_init, with_lean, with_option, with_place, with_stmt, with_variable, with_variable_as};
+ghost use Rattle.ob_homes.specs.Flags.{exposed_flags, with_expr, with_further, with_lean, with_option, with_own, with_own_expr, with_own_item, with_place, with_stmt, with_variable, with_variable_as};
 
 use ob_base::NoMemory;
 use ob_conversions::types::same_type;
@@ -148,24 +148,61 @@ fn expose_in_option(e: &Option<TExpr>, locals: &[CType], flags: &mut [bool])
     }
 }
 
-#[cycle(initialisers)]
-fn expose_in_init(init: &TInit, locals: &[CType], flags: &mut [bool])
-    ensures { flags.new ≡ with_init (typed_init init.now) (plain_types locals.now) flags.old }
+/// Raises the flags of what a place exposes in the initialiser of variable `own`, which may be named as a whole.
+fn expose_further(lean: &TLean, own: u32, locals: &[CType], flags: &mut [bool])
+    ensures { flags.new ≡ with_further own (typed_lean lean.now) (plain_types locals.now) flags.old }
+{
+    match lean {
+        TLean::Local(n) => if *n != own {
+            expose(*n, locals, flags)
+        },
+        TLean::Static(_) => {}
+        TLean::Value(e) => expose_in_expr(e, locals, flags),
+        TLean::Slide { .. } => expose_in_lean(lean, locals, flags),
+        TLean::Member(base, _) => expose_in_lean(base, locals, flags),
+    }
+}
+
+/// Raises the flags of what an item exposes in the initialiser of variable `own`, which may be a pointer to it.
+fn expose_in_own_expr(e: &TExpr, own: u32, locals: &[CType], flags: &mut [bool])
+    ensures { flags.new ≡ with_own_expr own (typed_expr e.now) (plain_types locals.now) flags.old }
+{
+    match &e.node {
+        TNode::Lean(lean) => expose_further(lean, own, locals, flags),
+        _ => expose_in_expr(e, locals, flags),
+    }
+}
+
+#[cycle(own)]
+fn expose_in_own_item(init: &TInit, own: u32, locals: &[CType], flags: &mut [bool])
+    ensures { flags.new ≡ with_own_item own (typed_init init.now) (plain_types locals.now) flags.old }
 {
     match init {
-        TInit::Value(e) => expose_in_expr(e, locals, flags),
+        TInit::Value(e) => expose_in_own_expr(e, own, locals, flags),
         TInit::Chars(_) => {}
-        TInit::List(items) => expose_in_items(items, locals, flags),
+        TInit::List(items) => expose_in_own_items(items, own, locals, flags),
         TInit::Copy(p) => expose_in_lean(&p.lean, locals, flags),
     }
 }
 
-#[cycle(initialisers)]
-fn expose_in_items(items: &[TInit], locals: &[CType], flags: &mut [bool])
-    ensures { flags.new ≡ fold (λ fs x. with_init (typed_init x) (plain_types locals.now) fs) flags.old items.now }
+#[cycle(own)]
+fn expose_in_own_items(items: &[TInit], own: u32, locals: &[CType], flags: &mut [bool])
+    ensures { flags.new ≡ fold (λ fs x. with_own_item own (typed_init x) (plain_types locals.now) fs) flags.old items.now }
 {
     for item in items {
-        expose_in_init(item, locals, flags);
+        expose_in_own_item(item, own, locals, flags);
+    }
+}
+
+/// Raises the flags of what the initialiser of variable `own` exposes.
+fn expose_in_own(init: &TInit, own: u32, locals: &[CType], flags: &mut [bool])
+    ensures { flags.new ≡ with_own own (typed_init init.now) (plain_types locals.now) flags.old }
+{
+    match init {
+        TInit::Value(e) => expose_in_expr(e, locals, flags),
+        TInit::Chars(_) => {}
+        TInit::List(items) => expose_in_own_items(items, own, locals, flags),
+        TInit::Copy(p) => expose_further(&p.lean, own, locals, flags),
     }
 }
 
@@ -178,7 +215,7 @@ fn expose_in_stmt(stmt: &TStmt, locals: &[CType], flags: &mut [bool])
         TStmt::Empty | TStmt::Break | TStmt::Continue => {}
         TStmt::Expr(e) => expose_in_expr(e, locals, flags),
         TStmt::Block(stmts) => expose_in_stmts(stmts, locals, flags),
-        TStmt::Init { init, .. } => expose_in_init(init, locals, flags),
+        TStmt::Init { local, init } => expose_in_own(init, *local, locals, flags),
         TStmt::If(test, then, other) => {
             expose_in_expr(test, locals, flags);
             expose_in_stmt(then, locals, flags);
