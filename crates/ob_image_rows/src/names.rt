@@ -71,8 +71,9 @@ fn push_variable_names(
 {
     let mut ordinal: u32 = 0;
     for name in &f.names {
-        let Some(t) = type_at(&f.locals, ordinal) else {
-            return Ok(());
+        let t = match type_at(&f.locals, ordinal) {
+            Some(t) => t,
+            None => return Ok(()),
         };
         let Some(home) = home_at(h, ordinal) else {
             return Ok(());

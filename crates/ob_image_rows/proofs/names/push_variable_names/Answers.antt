@@ -36,22 +36,22 @@ loop-name-preserved c =
       whole = subst (λ k. all ≡ c.push_name.new.rows.items ++ variable_names holder (k + 1) (drop (k + 1) ns) (drop (k + 1) ts) (drop (k + 1) hs)) same more;
     }
 
+pub returns-in-None : goal.returns-in-None
+returns-in-None c =
+    let ns = c.args.f.now.names.items in
+    let ts = plain_types c.args.f.now.locals.items in
+    let hs = plain_homes c.args.h.now.list.items in
+    let i = c.loop-name.name-index in
+    let nowhere : slice_get c.args.f.now.locals.items c.loop-name.ordinal ≡ None = sym c.in-None.ensures in
+    let none = subst (λ k. drop k ts ≡ []) c.loop-name.invariant.ordinal (opened_nowhere plain_type c.args.f.now.locals.items c.loop-name.ordinal nowhere) in
+    names_end c.args.holder i (drop i ns) (drop i ts) (drop i hs) (c.args.rows.now.items ++ variable_names c.args.holder 0 ns ts hs) c.loop-name.rows.items (inl none) c.loop-name.invariant.whole
+
 pub returns-in_default : goal.returns-in_default
 returns-in_default c =
     let ns = c.args.f.now.names.items in
     let ts = plain_types c.args.f.now.locals.items in
     let hs = plain_homes c.args.h.now.list.items in
     let i = c.loop-name.name-index in
-    let nowhere : slice_get c.args.f.now.locals.items c.loop-name.ordinal ≡ None = cc (c.in_default.is, c.type_at.ensures) in
-    let none = subst (λ k. drop k ts ≡ []) c.loop-name.invariant.ordinal (opened_nowhere plain_type c.args.f.now.locals.items c.loop-name.ordinal nowhere) in
-    names_end c.args.holder i (drop i ns) (drop i ts) (drop i hs) (c.args.rows.now.items ++ variable_names c.args.holder 0 ns ts hs) c.loop-name.rows.items (inl none) c.loop-name.invariant.whole
-
-pub returns-in_default-home_at : goal.returns-in_default-home_at
-returns-in_default-home_at c =
-    let ns = c.args.f.now.names.items in
-    let ts = plain_types c.args.f.now.locals.items in
-    let hs = plain_homes c.args.h.now.list.items in
-    let i = c.loop-name.name-index in
-    let nowhere : slice_get c.args.h.now.list.items c.loop-name.ordinal ≡ None = cc (c.in_default-home_at.is, c.home_at.ensures) in
+    let nowhere : slice_get c.args.h.now.list.items c.loop-name.ordinal ≡ None = cc (c.in_default.is, c.home_at.ensures) in
     let none = subst (λ k. drop k hs ≡ []) c.loop-name.invariant.ordinal (opened_nowhere plain_home c.args.h.now.list.items c.loop-name.ordinal nowhere) in
     names_end c.args.holder i (drop i ns) (drop i ts) (drop i hs) (c.args.rows.now.items ++ variable_names c.args.holder 0 ns ts hs) c.loop-name.rows.items (inr none) c.loop-name.invariant.whole
