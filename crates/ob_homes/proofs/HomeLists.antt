@@ -38,7 +38,7 @@ flag_tells f xs i x flags locals within is all =
     let first : i ≡ 0 + i = omega arith in
     let at = ap (λ ts. slice_get ts i) locals ∙ type_at xs i x within is in
     get_or_from_slice_get flags i _ false
-        (ap (λ fs. slice_get fs i) all ∙ flag_at (λ v t. exposes_in_stmt v t f.body) i i 0 f.locals (plain_type x) first at)
+    (ap (λ fs. slice_get fs i) all ∙ flag_at (λ v t. exposes_in_stmt v t f.body) i i 0 f.locals (plain_type x) first at)
 
 -- one home more
 pub more_homes : (f : TypedFunction) (i w r w' r' : ℕ) (t : PlainType) (ts others : List PlainType) (exposed : Bool) (hs : List placed_home) (h : placed_home) (whole : List Home) →

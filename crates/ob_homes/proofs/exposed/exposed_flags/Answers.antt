@@ -18,8 +18,8 @@ returns c =
     let many : c.len.result ≡ length types = omega (arith, length-map c.args.f.now.locals.items plain_type) in
     let none = c.deref_mut.ensures.value ∙ (c.in_ok-flags.ensures ∙ ap (λ n. replicate n false) many) in
     let walked =
-        c.expose_in_stmt.ensures
-        ∙ (ap (λ ts. with_stmt body (plain_types ts) c.deref_mut.result.now) c.deref.ensures.value
-           ∙ ap (λ fs. with_stmt body types fs) none) in
+    c.expose_in_stmt.ensures
+    ∙ (ap (λ ts. with_stmt body (plain_types ts) c.deref_mut.result.now) c.deref.ensures.value
+    ∙ ap (λ fs. with_stmt body types fs) none) in
     let raised = walked ∙ stmt_raises body types (replicate (length types) false) in
     ap (λ n. take n (new ++ behind)) (sym size) ∙ (take-append_seam new behind ∙ raised)

@@ -20,8 +20,8 @@ loop-t-preserved c =
     let tells = c.flag.ensures ∙ flag_tells f xs v x c.deref.result.now refl within is (c.deref.ensures.value ∙ c.in_ok-exposed.ensures) in
     let whole = subst (λ k. homes f ≡ plain_homes c.loop-t.list.items ++ homes_from f k c.loop-t.next.word c.loop-t.next.row (drop k ts)) (sym same) c.loop-t.invariant.whole in
     let more =
-        more_homes f v c.loop-t.next.word c.loop-t.next.row c.placed.new.next.word c.placed.new.next.row (plain_type x) (drop v ts) (drop (v + 1) ts)
-            c.flag.result c.loop-t.list.items c.in_ok-home.home (homes f) (opened_map plain_type xs v x within is) tells c.in_ok-home.ensures whole in
+    more_homes f v c.loop-t.next.word c.loop-t.next.row c.placed.new.next.word c.placed.new.next.row (plain_type x) (drop v ts) (drop (v + 1) ts)
+    c.flag.result c.loop-t.list.items c.in_ok-home.home (homes f) (opened_map plain_type xs v x within is) tells c.in_ok-home.ensures whole in
     let pushed = subst (λ hs. homes f ≡ plain_homes hs ++ homes_from f (v + 1) c.placed.new.next.word c.placed.new.next.row (drop (v + 1) ts)) (sym c.in_ok-push_on.ensures.ok) more in
     record {
       ordinal = c.in_ok-v.ensures ∙ ap (λ k. k + 1) same;

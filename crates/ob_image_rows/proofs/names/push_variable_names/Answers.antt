@@ -26,9 +26,9 @@ loop-name-preserved c =
     let has_home : slice_get c.args.h.now.list.items v ≡ Some c.in-Some-home_at.home = sym c.in-Some-home_at.ensures in
     let whole = subst (λ k. all ≡ c.loop-name.rows.items ++ variable_names holder k (drop k ns) (drop k ts) (drop k hs)) (sym same) c.loop-name.invariant.whole in
     let opens =
-        ap (λ ms. variable_names holder v ms (drop v ts) (drop v hs)) (opened ns v n within is)
-        ∙ (ap (λ us. variable_names holder v (n ∷ drop (v + 1) ns) us (drop v hs)) (opened_found plain_type c.args.f.now.locals.items v c.in-Some.t.now has_type)
-           ∙ ap (λ gs. variable_names holder v (n ∷ drop (v + 1) ns) (t ∷ drop (v + 1) ts) gs) (opened_found plain_home c.args.h.now.list.items v c.in-Some-home_at.home has_home)) in
+    ap (λ ms. variable_names holder v ms (drop v ts) (drop v hs)) (opened ns v n within is)
+    ∙ (ap (λ us. variable_names holder v (n ∷ drop (v + 1) ns) us (drop v hs)) (opened_found plain_type c.args.f.now.locals.items v c.in-Some.t.now has_type)
+    ∙ ap (λ gs. variable_names holder v (n ∷ drop (v + 1) ns) (t ∷ drop (v + 1) ts) gs) (opened_found plain_home c.args.h.now.list.items v c.in-Some-home_at.home has_home)) in
     let pushed = c.in_ok-push_name.ensures ∙ ap (λ w. c.loop-name.rows.items ++ row_if_named holder v w t n) c.home_word.ensures in
     let more = taken all c.loop-name.rows.items (variable_names holder v (drop v ns) (drop v ts) (drop v hs)) (row_if_named holder v (home_word h) t n) (variable_names holder (v + 1) (drop (v + 1) ns) (drop (v + 1) ts) (drop (v + 1) hs)) c.push_name.new.rows.items whole opens pushed in
     record {
