@@ -11,13 +11,3 @@ pub(crate) fn add(a: u32, b: u32) -> Result<u32, NoMemory>
         None => Err(NoMemory),
     }
 }
-
-/// The sum of two numbers, or `NoMemory` where it doesn't fit.
-pub(crate) fn add_long(a: u64, b: u64) -> Result<u64, NoMemory>
-    ensures { IfOk result (λ n. n ≡ a + b) }
-{
-    match a.checked_add(b) {
-        Some(n) => Ok(n),
-        None => Err(NoMemory),
-    }
-}

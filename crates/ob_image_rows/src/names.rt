@@ -27,11 +27,7 @@ pub fn name_rows(alloc: Global, t: &Typed) -> Result<Vec<NameRow>, NoMemory>
 }
 
 /// Puts the names of static objects at the end.
-fn push_static_names(
-    alloc: Global,
-    rows: &mut Vec<NameRow>,
-    t: &Typed,
-) -> Result<(), NoMemory>
+fn push_static_names(alloc: Global, rows: &mut Vec<NameRow>, t: &Typed) -> Result<(), NoMemory>
     ensures { OnOk result (rows.new.items ≡ rows.old.items ++ static_names 1 (typed_program t.now).statics) }
 {
     let mut object: u32 = 1;
@@ -43,11 +39,7 @@ fn push_static_names(
 }
 
 /// Puts the names of all functions' variables at the end.
-fn push_function_names(
-    alloc: Global,
-    rows: &mut Vec<NameRow>,
-    t: &Typed,
-) -> Result<(), NoMemory>
+fn push_function_names(alloc: Global, rows: &mut Vec<NameRow>, t: &Typed) -> Result<(), NoMemory>
     ensures { OnOk result (rows.new.items ≡ rows.old.items ++ function_names 1 (typed_program t.now).functions) }
 {
     let mut holder: u32 = 1;
@@ -71,8 +63,9 @@ fn push_variable_names(
 {
     let mut ordinal: u32 = 0;
     for name in &f.names {
-        let Some(t) = type_at(&f.locals, ordinal) else {
-            return Ok(());
+        let t = match type_at(&f.locals, ordinal) {
+            Some(t) => t,
+            None => return Ok(()),
         };
         let Some(home) = home_at(h, ordinal) else {
             return Ok(());

@@ -35,8 +35,8 @@ loop-t-preserved c =
     let found : slice_get c.args.h.now.list.items v ≡ Some c.in-Some.home = sym c.in-Some.ensures in
     let whole = subst (λ k. all ≡ c.loop-t.rows.items ++ rows_from s k p (drop k ts) (drop k hs)) (sym same) c.loop-t.invariant.whole in
     let more =
-        more_rows s v p q (plain_type x) (plain_home c.in-Some.home) (drop v ts) (drop (v + 1) ts) (drop v hs) (drop (v + 1) hs) all c.loop-t.rows.items c.push_local.new.rows.items
-            (opened_map plain_type c.args.locals.now v x within is) (opened_found plain_home c.args.h.now.list.items v c.in-Some.home found) c.in_ok-push_local-in-Some.ensures whole in
+    more_rows s v p q (plain_type x) (plain_home c.in-Some.home) (drop v ts) (drop (v + 1) ts) (drop v hs) (drop (v + 1) hs) all c.loop-t.rows.items c.push_local.new.rows.items
+    (opened_map plain_type c.args.locals.now v x within is) (opened_found plain_home c.args.h.now.list.items v c.in-Some.home found) c.in_ok-push_local-in-Some.ensures whole in
     record {
       ordinal = c.in_ok-ordinal.ensures ∙ ap (λ k. k + 1) same;
       whole = subst (λ k. all ≡ c.push_local.new.rows.items ++ rows_from s (k + 1) q (drop (k + 1) ts) (drop (k + 1) hs)) same more;

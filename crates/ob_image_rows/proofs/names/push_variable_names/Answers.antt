@@ -26,9 +26,9 @@ loop-name-preserved c =
     let has_home : slice_get c.args.h.now.list.items v ≡ Some c.in-Some-home_at.home = sym c.in-Some-home_at.ensures in
     let whole = subst (λ k. all ≡ c.loop-name.rows.items ++ variable_names holder k (drop k ns) (drop k ts) (drop k hs)) (sym same) c.loop-name.invariant.whole in
     let opens =
-        ap (λ ms. variable_names holder v ms (drop v ts) (drop v hs)) (opened ns v n within is)
-        ∙ (ap (λ us. variable_names holder v (n ∷ drop (v + 1) ns) us (drop v hs)) (opened_found plain_type c.args.f.now.locals.items v c.in-Some.t.now has_type)
-           ∙ ap (λ gs. variable_names holder v (n ∷ drop (v + 1) ns) (t ∷ drop (v + 1) ts) gs) (opened_found plain_home c.args.h.now.list.items v c.in-Some-home_at.home has_home)) in
+    ap (λ ms. variable_names holder v ms (drop v ts) (drop v hs)) (opened ns v n within is)
+    ∙ (ap (λ us. variable_names holder v (n ∷ drop (v + 1) ns) us (drop v hs)) (opened_found plain_type c.args.f.now.locals.items v c.in-Some.t.now has_type)
+    ∙ ap (λ gs. variable_names holder v (n ∷ drop (v + 1) ns) (t ∷ drop (v + 1) ts) gs) (opened_found plain_home c.args.h.now.list.items v c.in-Some-home_at.home has_home)) in
     let pushed = c.in_ok-push_name.ensures ∙ ap (λ w. c.loop-name.rows.items ++ row_if_named holder v w t n) c.home_word.ensures in
     let more = taken all c.loop-name.rows.items (variable_names holder v (drop v ns) (drop v ts) (drop v hs)) (row_if_named holder v (home_word h) t n) (variable_names holder (v + 1) (drop (v + 1) ns) (drop (v + 1) ts) (drop (v + 1) hs)) c.push_name.new.rows.items whole opens pushed in
     record {
@@ -36,22 +36,22 @@ loop-name-preserved c =
       whole = subst (λ k. all ≡ c.push_name.new.rows.items ++ variable_names holder (k + 1) (drop (k + 1) ns) (drop (k + 1) ts) (drop (k + 1) hs)) same more;
     }
 
+pub returns-in-None : goal.returns-in-None
+returns-in-None c =
+    let ns = c.args.f.now.names.items in
+    let ts = plain_types c.args.f.now.locals.items in
+    let hs = plain_homes c.args.h.now.list.items in
+    let i = c.loop-name.name-index in
+    let nowhere : slice_get c.args.f.now.locals.items c.loop-name.ordinal ≡ None = sym c.in-None.ensures in
+    let none = subst (λ k. drop k ts ≡ []) c.loop-name.invariant.ordinal (opened_nowhere plain_type c.args.f.now.locals.items c.loop-name.ordinal nowhere) in
+    names_end c.args.holder i (drop i ns) (drop i ts) (drop i hs) (c.args.rows.now.items ++ variable_names c.args.holder 0 ns ts hs) c.loop-name.rows.items (inl none) c.loop-name.invariant.whole
+
 pub returns-in_default : goal.returns-in_default
 returns-in_default c =
     let ns = c.args.f.now.names.items in
     let ts = plain_types c.args.f.now.locals.items in
     let hs = plain_homes c.args.h.now.list.items in
     let i = c.loop-name.name-index in
-    let nowhere : slice_get c.args.f.now.locals.items c.loop-name.ordinal ≡ None = cc (c.in_default.is, c.type_at.ensures) in
-    let none = subst (λ k. drop k ts ≡ []) c.loop-name.invariant.ordinal (opened_nowhere plain_type c.args.f.now.locals.items c.loop-name.ordinal nowhere) in
-    names_end c.args.holder i (drop i ns) (drop i ts) (drop i hs) (c.args.rows.now.items ++ variable_names c.args.holder 0 ns ts hs) c.loop-name.rows.items (inl none) c.loop-name.invariant.whole
-
-pub returns-in_default-home_at : goal.returns-in_default-home_at
-returns-in_default-home_at c =
-    let ns = c.args.f.now.names.items in
-    let ts = plain_types c.args.f.now.locals.items in
-    let hs = plain_homes c.args.h.now.list.items in
-    let i = c.loop-name.name-index in
-    let nowhere : slice_get c.args.h.now.list.items c.loop-name.ordinal ≡ None = cc (c.in_default-home_at.is, c.home_at.ensures) in
+    let nowhere : slice_get c.args.h.now.list.items c.loop-name.ordinal ≡ None = cc (c.in_default.is, c.home_at.ensures) in
     let none = subst (λ k. drop k hs ≡ []) c.loop-name.invariant.ordinal (opened_nowhere plain_home c.args.h.now.list.items c.loop-name.ordinal nowhere) in
     names_end c.args.holder i (drop i ns) (drop i ts) (drop i hs) (c.args.rows.now.items ++ variable_names c.args.holder 0 ns ts hs) c.loop-name.rows.items (inr none) c.loop-name.invariant.whole
