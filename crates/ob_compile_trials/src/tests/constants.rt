@@ -36,7 +36,8 @@ ok:int a[0u-1>0],b[-1<0L],c[-1<0ul?-1:1],d[1<<3],e[-7/2+4],f[-7%2+2];int main(vo
 3 Constant:int a[1<<31];int main(void){}
 ok:int a[1<<33>>1];int main(void){}
 1 Constant:int a[1l<<31];int main(void){}
-ok:char a[1<<22];int main(void){}
+ok:char a[(1<<22)-1];int main(void){}
+Statics:char a[1<<22];int main(void){}
 1 Constant:char a[(1<<22)+1];int main(void){}
 3 Constant:int a[-1>>31];int main(void){}
 3 Constant:int a[(-2147483647-1)/-1];int main(void){}

@@ -17,14 +17,16 @@ ok:int f(int a[1]);int main(void){}
 6 Constant:int n;int a[n];int main(void){}
 14 Constant:int main(void){int n=1;int a[n];}
 9 Constant:int f(int n,int a[n]){return 0;}int main(void){}
-ok:char a[4194304];int main(void){}
+ok:char a[4194303];int main(void){}
+Statics:char a[4194304];int main(void){}
 1 Constant:char a[4194305];int main(void){}
-ok:int a[1048576];int main(void){}
+Statics:int a[1048576];int main(void){}
 1 Constant:int a[1048577];int main(void){}
-ok:char a[2048][2048];int main(void){}
+ok:int main(void){char a[2048][2048];}
+Statics:char a[2048][2048];int main(void){}
 1 Constant:char a[2048][2049];int main(void){}
 1 Constant:char a[2049][2048];int main(void){}
-ok:char*a[524288];int main(void){}
+Statics:char*a[524288];int main(void){}
 2 Constant:char*a[524289];int main(void){}
 ok:struct s{char a[4194304];};int main(void){}
 4 Constant:struct s{char a[4194305];};int main(void){}
@@ -37,7 +39,8 @@ ok:struct s{int b;char a[4194300];};int main(void){}
 1 Constant:struct s{int b;char a[4194301];};int main(void){}
 ok:struct s{long b;char a[4194290];};int main(void){}
 1 Constant:struct s{long b;char a[4194297];};int main(void){}
-ok:struct s{char a[2097152];}x[2];int main(void){}
+ok:int main(void){struct s{char a[2097152];}x[2];}
+Statics:struct s{char a[2097152];}x[2];int main(void){}
 10 Constant:struct s{char a[2097153];}x[2];int main(void){}
 18 Constant:int main(void){struct s{struct{char a[4194304];}b[2];};}
 ok:int main(void){return sizeof(char[4194304])==4194304;}
