@@ -1,7 +1,7 @@
 -- What the homes of variables are without their vectors, and what the code of a function depends on, by the values of the program.
 use Rattle.std.specs.Prelude.{◌≡◌, ℕ, List, map}
 use Rattle.ob_typed.specs.TypedTree.{TypedFunction, TypedProgram}
-use Rattle.ob_lower.specs.Homes.{Context, first_word, homes, past_words, zero_word}
+use Rattle.ob_lower.specs.Homes.{Context, first_word, homes, past_words, zero_word, type_of_object}
 use Rattle.ob_lower.specs.Homes.{Home as plain}
 use Rattle.ob_homes.specs.declared.home.Home.{Home}
 use Rattle.ob_homes.specs.declared.home.Home.TheVariants as home
@@ -21,6 +21,7 @@ context_in t f h =
     record {
       structs = t.structs;
       functions = t.functions;
+      statics = map type_of_object t.statics;
       locals = f.locals;
       homes = plain_homes h.list.items;
       zero = h.zero;

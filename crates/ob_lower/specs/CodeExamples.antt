@@ -17,14 +17,14 @@ use Rattle.ob_code.specs.declared.instructions.Instr.{Instr}
 use Rattle.ob_code.specs.declared.instructions.Instr.TheVariants.{Tick, Set, Move, Binary, Compare, Jump, JumpZero, JumpNonzero, Call, Return, Static, Local, Wipe, Load, Store, Slide, SlideBy, PutChar}
 use Rattle.ob_meaning.specs.ControlExamples.{call_of, int_item, items_of, two_ints}
 use Rattle.ob_meaning.specs.Examples.{return_zero}
-use Rattle.ob_meaning.specs.ExampleTrees.{int, int_type, main_of, number, place, plus, put, read, set, statements_of}
+use Rattle.ob_meaning.specs.ExampleTrees.{int, int_type, main_of, number, place, plus, program_of, put, read, set, statements_of}
 use Rattle.ob_lower.specs.Functions.{function_code, function_row}
 use Rattle.ob_lower.specs.Statements.{stmt_code}
 use Rattle.ob_lower.specs.Homes.{context_of}
 
 -- a statement of a function with these variables, which is function 0 and has expressions
 abbrev pub code_in_main : PlainStructs → List PlainType → TypedStmt → List Instr
-code_in_main structs locals s = stmt_code (context_of structs (main_of locals 9 (s ∷ []) ∷ []) (main_of locals 9 (s ∷ []))) s 0 0
+code_in_main structs locals s = stmt_code (context_of (program_of structs [] (main_of locals 9 (s ∷ []) ∷ [])) (main_of locals 9 (s ∷ []))) s 0 0
 
 abbrev pub three_ints : List PlainType
 three_ints = int_type ∷ int_type ∷ int_type ∷ []
@@ -60,7 +60,7 @@ CodeOfCountdown =
 -- main with putchar(72); return 0;
 abbrev pub CodeOfHello : Type 0
 CodeOfHello =
-    function_code [] [] (main_of [] 3 (put (number 72) ∷ return_zero))
+    function_code (program_of [] [] []) (main_of [] 3 (put (number 72) ∷ return_zero))
     ≡ Tick ∷ Tick ∷ Set 3 (pos 72) ∷ PutChar 3 3 ∷ Tick ∷ Return 2 ∷ Return 2 ∷ []
 
 -- s = f(i, s + 1); where f is function 0
@@ -161,11 +161,20 @@ CodeOfOwnCopy = code_in_main two_ints (Struct 0 ∷ []) copied_from_itself ≡ [
 abbrev pub CodeOfOwnPointer : Type 0
 CodeOfOwnPointer = code_in_main [] (one_pointer ∷ []) holding_itself ≡ Local 3 (pos 0) ∷ []
 
+-- struct {int a; int b;} t = *(struct .. *)c; with int c[1]: an object of another type is loaded, since a load may go astray
+abbrev pub one_int : PlainType
+one_int = Array int_type 1
+
+abbrev pub CodeOfCastCopy : Type 0
+CodeOfCastCopy =
+    code_in_main two_ints (Struct 0 ∷ one_int ∷ []) (stmt.Init 0 (init.Copy (place (Struct 0) (at.Local 1))))
+    ≡ Local 3 (pos 1) ∷ Load (Num type.Int) 1 4 3 2 ∷ Set 4 (pos 4) ∷ Load (Num type.Int) 1 4 3 4 ∷ []
+
 -- so the frame of a function with no more expressions than that one name fits in what its call takes of the stack
 abbrev pub row_of_main : PlainStructs → List PlainType → TypedStmt → FunctionRow
 row_of_main structs locals s =
-    function_row structs (main_of locals 1 (s ∷ []) ∷ []) (main_of locals 1 (s ∷ [])) 0
-    (function_code structs (main_of locals 1 (s ∷ []) ∷ []) (main_of locals 1 (s ∷ [])))
+    function_row (program_of structs [] (main_of locals 1 (s ∷ []) ∷ [])) (main_of locals 1 (s ∷ [])) 0
+    (function_code (program_of structs [] (main_of locals 1 (s ∷ []) ∷ [])) (main_of locals 1 (s ∷ [])))
 
 abbrev pub FrameIs : ℕ → FunctionRow → Type 0
 FrameIs n row = (frame_length row ≡ n) × (row.allowance ≡ n)

@@ -4,7 +4,7 @@ use Rattle.std.specs.Prelude.{ℕ, zero, suc, ◌+◌, max, List, [], ◌∷◌,
 use Rattle.ob_words.specs.Words.{block}
 use Rattle.ob_tree.specs.Sizes.{allowance, size}
 use Rattle.ob_tree.specs.Types.{PlainType, PlainStructs}
-use Rattle.ob_typed.specs.TypedTree.{TypedFunction}
+use Rattle.ob_typed.specs.TypedTree.{TypedFunction, TypedProgram}
 use Rattle.ob_code.specs.declared.image.FunctionRow.{FunctionRow}
 use Rattle.ob_code.specs.declared.image.LocalRow.{LocalRow}
 use Rattle.ob_code.specs.declared.instructions.Instr.{Instr}
@@ -32,8 +32,8 @@ entry_code c (suc n) v (t ∷ ts) (h ∷ hs) = entry_at c v t h ++ entry_code c 
 abbrev pub code_in : Context → TypedFunction → List Instr
 code_in c f = entry_code c f.params 0 f.locals c.homes ++ stmt_code c f.body 0 0 ++ instr.Return c.zero ∷ []
 
-abbrev pub function_code : PlainStructs → List TypedFunction → TypedFunction → List Instr
-function_code structs functions f = code_in (context_of structs functions f) f
+abbrev pub function_code : TypedProgram → TypedFunction → List Instr
+function_code t f = code_in (context_of t f) f
 
 -- ---- words: those that variables have, and those that the code names
 
@@ -101,5 +101,5 @@ row_of_words c f entry words =
 abbrev pub row_in : Context → TypedFunction → ℕ → List Instr → FunctionRow
 row_in c f entry code = row_of_words c f entry (words_of c.free code)
 
-abbrev pub function_row : PlainStructs → List TypedFunction → TypedFunction → ℕ → List Instr → FunctionRow
-function_row structs functions f entry code = row_in (context_of structs functions f) f entry code
+abbrev pub function_row : TypedProgram → TypedFunction → ℕ → List Instr → FunctionRow
+function_row t f entry code = row_in (context_of t f) f entry code

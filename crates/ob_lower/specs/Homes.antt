@@ -2,9 +2,9 @@
 -- the one in which its argument arrives. Then comes a word that is 0 for the whole call, then one word for each other plain
 -- variable, in order, and from there on words are free for the values of expressions. A function without expressions has no zero
 -- word: word 1 serves there, whose value nobody uses, and which is 0 in the first frame.
-use Rattle.std.specs.Prelude.{ℕ, zero, suc, ◌+◌, max, Bool, true, false, nat_lt, List, [], ◌∷◌, Option, Some, None, slice_index_or, if◌then◌else◌}
+use Rattle.std.specs.Prelude.{ℕ, zero, suc, ◌+◌, max, Bool, true, false, nat_lt, List, [], ◌∷◌, Option, Some, None, slice_index_or, map, if◌then◌else◌}
 use Rattle.ob_tree.specs.Types.{PlainType, PlainStructs}
-use Rattle.ob_typed.specs.TypedTree.{TypedFunction, TypedLean}
+use Rattle.ob_typed.specs.TypedTree.{TypedFunction, TypedLean, TypedObject, TypedProgram}
 use Rattle.ob_typed.specs.TypedTree.{TypedLean as at}
 use Rattle.ob_typed.specs.TypeTests.{is_scalar}
 use Rattle.ob_lower.specs.Variables.{exposes_in_stmt}
@@ -76,21 +76,27 @@ abbrev pub past_words : List Home → ℕ → ℕ
 past_words [] n = n
 past_words (h ∷ hs) n = past_words hs (past_word h n)
 
--- ---- what the code of a function depends on: the program's structures and functions, the function's variables, and its words
+-- ---- what the code of a function depends on: the program's structures and functions, the types of its static objects, the
+-- function's variables, and its words
 
 pub record Context : Type 0 where
   pub structs : PlainStructs
   pub functions : List TypedFunction
+  pub statics : List PlainType
   pub locals : List PlainType
   pub homes : List Home
   pub zero : ℕ
   pub free : ℕ
 
-abbrev pub context_of : PlainStructs → List TypedFunction → TypedFunction → Context
-context_of structs functions f =
+abbrev pub type_of_object : TypedObject → PlainType
+type_of_object o = o.ty
+
+abbrev pub context_of : TypedProgram → TypedFunction → Context
+context_of t f =
     record {
-      structs = structs;
-      functions = functions;
+      structs = t.structs;
+      functions = t.functions;
+      statics = map type_of_object t.statics;
       locals = f.locals;
       homes = homes f;
       zero = zero_word f;

@@ -1,11 +1,12 @@
 -- The code of the initialiser of an automatic object (C99 6.7.8). A plain variable gets the value in its word. An array or a structure
 -- becomes zero bytes first, and then each value is stored at its offset. What nothing names is only evaluated.
-use Rattle.std.specs.Prelude.{ℕ, ◌+◌, pos, List, [], ◌∷◌, ◌++◌, slice_index_or}
+use Rattle.std.specs.Prelude.{ℕ, ◌+◌, Bool, false, pos, List, [], ◌∷◌, ◌++◌, slice_index_or, if◌then◌else◌}
 use Rattle.ob_model.specs.declared.values.LoadKind.{LoadKind}
 use Rattle.ob_tree.specs.Types.{PlainType}
 use Rattle.ob_tree.specs.Types.PlainType.{Void, Int, Pointer, Array, Struct}
 use Rattle.ob_typed.specs.TypedTree.{TypedInit, TypedInits, TypedLean}
 use Rattle.ob_typed.specs.TypedTree.TypedExpr.{Typed}
+use Rattle.ob_typed.specs.TypeTests.{same_type}
 use Rattle.ob_typed.specs.TypedTree.TypedPlace.{Place}
 use Rattle.ob_typed.specs.TypedTree.{TypedInit as init, TypedInits as inits, TypedLean as at}
 use Rattle.ob_code.specs.declared.instructions.Instr.{Instr}
@@ -65,7 +66,8 @@ abbrev mutual
   put_items c row t offset (inits.Item head tail) i =
       put c row (part_of c.structs t i).ty (offset + (part_of c.structs t i).offset) head ++ put_items c row t offset tail (i + 1)
 
--- ---- what nothing names: the items are evaluated, and the scalars of a structure are loaded, unless it is a whole object
+-- ---- what nothing names: the items are evaluated, and the scalars of a structure are loaded, unless it is a whole object of its
+-- type, where each load stays inside
 
 abbrev pub scalars_loaded : Context → ℕ → Based → List Scalar → List Instr
 scalars_loaded c line from [] = []
@@ -74,10 +76,16 @@ scalars_loaded c line from (s ∷ ss) = scalar_loaded c line from s from.free ++
 abbrev pub structure_loaded : Context → ℕ → Based → List Scalar → List Instr
 structure_loaded c line from ss = from.code ++ scalars_loaded c line from ss
 
+abbrev pub is_whole : Context → PlainType → TypedLean → Bool
+is_whole c t (at.Static n) = same_type (slice_index_or c.statics n Void) t
+is_whole c t (at.Local v) = same_type (slice_index_or c.locals v Void) t
+is_whole c t (at.Value e) = false
+is_whole c t (at.Slide lean scale minus number_first e) = false
+is_whole c t (at.Member lean offset) = false
+
 abbrev pub copy_evaluated : Context → PlainType → ℕ → TypedLean → List Instr
-copy_evaluated c t line (at.Static n) = []
-copy_evaluated c t line (at.Local v) = []
-copy_evaluated c t line lean = structure_loaded c line (based c lean assigns_none c.free) (scalars_of c.structs t)
+copy_evaluated c t line lean =
+    if is_whole c t lean then [] else structure_loaded c line (based c lean assigns_none c.free) (scalars_of c.structs t)
 
 abbrev mutual
   pub evaluated : Context → PlainType → TypedInit → List Instr

@@ -30,13 +30,13 @@ pointer_rows holder (o ∷ os) = map (pointer_row holder) o.image.pointers ++ po
 -- ---- code, function by function, from a place on
 
 abbrev pub codes_of : TypedProgram → List TypedFunction → List (List Instr)
-codes_of t fs = map (function_code t.structs t.functions) fs
+codes_of t fs = map (function_code t) fs
 
 abbrev pub rows_of : TypedProgram → ℕ → List TypedFunction → List (List Instr) → List FunctionRow
 rows_of t place [] codes = []
 rows_of t place (f ∷ fs) [] = []
 rows_of t place (f ∷ fs) (code ∷ codes) =
-    function_row t.structs t.functions f place code ∷ rows_of t (place + length code) fs codes
+    function_row t f place code ∷ rows_of t (place + length code) fs codes
 
 abbrev pub joined : ℕ → List (List Instr) → List Instr
 joined place [] = []

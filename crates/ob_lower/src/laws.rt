@@ -1,7 +1,7 @@
 //! What holds of the definitions alone. Each law is the contract of a function that does nothing.
 
 ghost use Rattle.std.specs.Prelude.{◌≡◌};
-ghost use Rattle.ob_lower.specs.CodeExamples.{CodeOfWhile, CodeOfCountdown, CodeOfHello, CodeOfCall, CodeOfAnd, CodeOfElement, CodeOfConstantElement, CodeOfNumbersFirst, CodeOfFor, CodeOfArray, CodeOfCopy, CodeOfSum, CodeOfOwnCopy, CodeOfOwnPointer, FramesOfOwnNames};
+ghost use Rattle.ob_lower.specs.CodeExamples.{CodeOfWhile, CodeOfCountdown, CodeOfHello, CodeOfCall, CodeOfAnd, CodeOfElement, CodeOfConstantElement, CodeOfNumbersFirst, CodeOfFor, CodeOfArray, CodeOfCopy, CodeOfSum, CodeOfOwnCopy, CodeOfOwnPointer, CodeOfCastCopy, FramesOfOwnNames};
 
 /// The code of small statements, written out by hand.
 pub fn law_code()
@@ -19,5 +19,6 @@ pub fn law_code()
     ensures sum { CodeOfSum }
     ensures own_copy { CodeOfOwnCopy }
     ensures own_pointer { CodeOfOwnPointer }
+    ensures cast_copy { CodeOfCastCopy }
     ensures own_frames { FramesOfOwnNames }
 {}

@@ -49,3 +49,7 @@ returns-clause-numbers_first c = refl
 pub returns-clause-countdown : goal.returns-clause-countdown
 unfolding convert residue
 returns-clause-countdown c = refl
+
+pub returns-clause-cast_copy : goal.returns-clause-cast_copy
+unfolding convert residue
+returns-clause-cast_copy c = refl
