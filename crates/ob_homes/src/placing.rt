@@ -24,8 +24,8 @@ struct Next {
 
 /// Where the variables of a function are, its zero word, and the first word that is free for values of expressions.
 ///
-/// `NoMemory` says also that it has more words than a frame can have; no function of a program within the limits
-/// does. Looks at the function's tree once, going down it by recursion.
+/// `NoMemory` comes also where the number of a word or a row is over a `u32`; that no function of a program within the
+/// limits has so many isn't proved yet. Looks at the function's tree once, going down it by recursion.
 pub fn homes(alloc: Global, f: &TFunction) -> Result<Homes, NoMemory>
     ensures { IfOk result (λ h. AreHomesOf (typed_function f.now) h) }
 {

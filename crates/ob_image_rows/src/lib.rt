@@ -4,8 +4,8 @@
 //! Stands on `ob_homes` for the homes of variables, on `ob_lower`, whose `Functions`, `Names` and `Programs` are to be believed, on
 //! `ob_typed` for typed trees, on `ob_layout` for the sizes of types, and on `ob_code` for the rows themselves.
 //!
-//! Each call answers `NoMemory` also where a number is too great for its row, or where a type has no size. No program that
-//! is typed and within the limits has such.
+//! Each call answers `NoMemory` also where a number is too great for its row, or where a type has no size. That
+//! no typed program within the limits has such isn't proved yet.
 #![tactic(auto)]
 
 pub use functions::{function_row, local_rows};
